@@ -1,0 +1,9 @@
+use Rattle.fn_core.proofs.Laws.{batches_follow}
+use Rattle.fn_core.proofs.Grows.{bases_are_right}
+use Rattle.fn_core.proofs.batches_follow.Goals as goal
+
+pub returns-clause-batches : goal.returns-clause-batches
+returns-clause-batches c = batches_follow
+
+pub returns-clause-bases : goal.returns-clause-bases
+returns-clause-bases c = bases_are_right

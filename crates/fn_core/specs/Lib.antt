@@ -1,0 +1,12 @@
+pub mod Tree
+pub mod State
+pub mod Machine
+pub mod Batches
+pub mod Laws
+pub mod Words
+pub mod After
+pub mod Order
+pub mod Steps
+pub mod Positions
+pub mod Bound
+pub mod Filling

@@ -1,0 +1,150 @@
+//! The machine of aggregating funnels: its states, its events, and what holds after every legal log.
+#![tactic(auto)]
+
+ghost use Rattle.fn_core.specs.Laws.{RepliesAreRight, DirectRepliesAreRight, RepliesAreBounded, MainIsValue, CallsStandOnce, HistoriesGrow, PlacesAreBeyond, WordsAreSmall, AdditionsAddAll, BatchesFollow, BasesAreRight};
+ghost use Rattle.fn_core.specs.Laws.{RowsAreLawful, RowsHaveNames, FreeRowsStay, FreeRowsAreFound, CallsKeepRows, LastCallsAreOwn, OwnCallsAreInOrder, OwnCallsGrowByOne, OwnCallsStay};
+ghost use Rattle.fn_core.specs.Laws.{EventsAreLocal, GuardsStay, EventsAreSteps, PositionsFit, CallsAlwaysGoOn, StepsRunOut, CallsAreShort};
+ghost use Rattle.fn_core.specs.After.{StepsTell, WordsAreFound};
+
+pub use fn_layout::Shape;
+use fn_model::Kind;
+use fn_rows::Field;
+use std::marker::Model;
+
+/// What a funnel opens with: its shape, the main word, the number at which additions stop, and what each pass may add and subtract in all.
+#[derive(Drop)]
+pub struct Start {
+    pub shape: Shape,
+    pub opening: u64,
+    pub cap: u64,
+    pub allowances: Allowances,
+}
+
+/// One allowance for each pass.
+#[derive(Drop)]
+pub struct Allowances {
+    pub items: Vec<u64>,
+}
+
+impl Model for Allowances {
+    ghost use Rattle.std.specs.Prelude.{ℕ, List};
+    ghost use Rattle.std.specs.Coded.{codes};
+
+    ghost Value = { List ℕ };
+
+    ghost view = { λ allowances. allowances.items.items };
+}
+
+/// Where a pass stands between its steps.
+#[derive(Clone, Copy, Debug, PartialEq, Eq)]
+pub enum Position {
+    /// It makes no call.
+    Resting,
+    /// A direct call has loaded this word.
+    Trying { word: u64 },
+    /// Its call has climbed to this level.
+    Climbing { kind: Kind, level: u32 },
+    /// Its batch at the top has loaded this word.
+    Deciding { kind: Kind, level: u32, word: u64 },
+}
+
+/// What the main word is loaded for.
+#[derive(Clone, Copy, Drop)]
+pub enum Purpose {
+    Try,
+    Read,
+}
+
+/// What a pass does next.
+#[derive(Clone, Copy, Drop)]
+pub enum Move {
+    Scan { kind: Kind, level: u32, other: u32 },
+    See { kind: Kind, level: u32 },
+    Announce { kind: Kind, level: u32 },
+    Arrive { kind: Kind, level: u32, weight: u64 },
+    Look { kind: Kind, level: u32 },
+    Close { kind: Kind, level: u32 },
+    Apply { weight: u64 },
+    Head { kind: Kind, level: u32 },
+    Fill { row: u32, field: Field },
+    Point { kind: Kind, level: u32, row: u32 },
+    Publish { kind: Kind, level: u32 },
+    Peek { row: u32, field: Field },
+    Leave { kind: Kind, level: u32 },
+    Load { purpose: Purpose },
+    Exchange { kind: Kind, amount: u64 },
+    Direct { amount: u64 },
+    Glance,
+}
+
+/// A step of one pass.
+#[derive(Clone, Copy, Drop)]
+pub struct Event {
+    pub pass: u32,
+    pub step: Move,
+}
+
+/// A call that has got its reply at its leaf stands in the history once, and the reply is the integer that it meets there.
+pub fn replies_are_right()
+    ensures climbing { RepliesAreRight }
+    ensures direct { DirectRepliesAreRight }
+    ensures bounded { RepliesAreBounded }
+{}
+
+/// The main word is the value of the history, in which each call stands at most once, and which only grows at its end.
+pub fn main_is_value()
+    ensures value { MainIsValue }
+    ensures once { CallsStandOnce }
+    ensures grows { HistoriesGrow }
+    ensures beyond { PlacesAreBeyond }
+{}
+
+/// No word passes its limit, so an addition adds its whole amount.
+pub fn words_are_small()
+    ensures words { WordsAreSmall }
+    ensures additions { AdditionsAddAll }
+{}
+
+/// The batches of each aggregator go up one behind the other, and the first call of each meets its base.
+pub fn batches_follow()
+    ensures batches { BatchesFollow }
+    ensures bases { BasesAreRight }
+{}
+
+/// Each aggregator keeps the row law, and a call keeps a free row at each level at which it may come to fill one.
+pub fn rows_are_kept()
+    ensures lawful { RowsAreLawful }
+    ensures named { RowsHaveNames }
+    ensures stay { FreeRowsStay }
+    ensures found { FreeRowsAreFound }
+    ensures kept { CallsKeepRows }
+{}
+
+/// The own calls of a pass stand in the history in the order in which it made them, and each call adds itself alone.
+pub fn own_calls_are_in_order()
+    ensures last { LastCallsAreOwn }
+    ensures in_order { OwnCallsAreInOrder }
+    ensures by_one { OwnCallsGrowByOne }
+    ensures stay { OwnCallsStay }
+{}
+
+/// An event of one pass changes nothing of any other, and takes no step away from it.
+pub fn events_are_local()
+    ensures local { EventsAreLocal }
+    ensures guards { GuardsStay }
+{}
+
+/// Each step of a pass is on one of the funnel's words, and what it finds there tells the pass where it stands then.
+pub fn steps_tell()
+    ensures steps { StepsTell }
+    ensures words { WordsAreFound }
+    ensures aggregators { EventsAreSteps }
+{}
+
+/// A call that has arrived can always take its next step, and ends after so many, but for looks below its offset and exchanges that lose.
+pub fn calls_go_on()
+    ensures fits { PositionsFit }
+    ensures next { CallsAlwaysGoOn }
+    ensures run_out { StepsRunOut }
+    ensures short { CallsAreShort }
+{}

@@ -1,0 +1,79 @@
+//! Shapes of funnels, and the numbers of their words.
+#![tactic(auto)]
+
+mod shape;
+
+ghost use Rattle.fn_layout.specs.Laws.{NamesAreRead, NumbersAreNamed, NamesAreDistinct, MembersAreNumbered, NumbersAreMembers, MembersRise};
+
+pub use fn_model::Kind;
+pub use fn_rows::Field;
+pub use shape::{Shape, ShapeFault};
+
+/// Each word has one name and one number, and the numbers are those below the number of words.
+pub fn word_laws()
+    ensures names_are_read { NamesAreRead }
+    ensures numbers_are_named { NumbersAreNamed }
+    ensures names_are_distinct { NamesAreDistinct }
+{}
+
+/// The members of an aggregator are its passes, numbered from 0 in rising order.
+pub fn member_laws()
+    ensures members_are_numbered { MembersAreNumbered }
+    ensures numbers_are_members { NumbersAreMembers }
+    ensures members_rise { MembersRise }
+{}
+
+#[cfg(test)]
+mod tests {
+    use super::*;
+
+    fn words_of(passes: u32, leaves: u32, levels: u32, rows: u32) -> Option<u32> {
+        match Shape::new(passes, leaves, levels, rows) {
+            Ok(shape) => Some(shape.words()),
+            Err(_) => None,
+        }
+    }
+
+    fn fault_of(passes: u32, leaves: u32, levels: u32, rows: u32) -> Option<ShapeFault> {
+        match Shape::new(passes, leaves, levels, rows) {
+            Ok(_) => None,
+            Err(fault) => Some(fault),
+        }
+    }
+
+    #[test]
+    fn words_are_counted(rt: HostRuntime) {
+        assert_eq!(rt; words_of(3, 1, 1, 2), Some(49));
+        assert_eq!(rt; words_of(64, 32, 3, 8), Some(9937));
+        assert_eq!(rt; words_of(64, 16, 2, 4), Some(3473));
+    }
+
+    #[test]
+    fn the_first_fault_is_told(rt: HostRuntime) {
+        assert_eq!(rt; fault_of(65, 1, 1, 1), Some(ShapeFault::Passes(65)));
+        assert_eq!(rt; fault_of(0, 0, 0, 0), Some(ShapeFault::Passes(0)));
+        assert_eq!(rt; fault_of(2, 3, 1, 1), Some(ShapeFault::Leaves(3)));
+        assert_eq!(rt; fault_of(64, 33, 4, 9), Some(ShapeFault::Leaves(33)));
+        assert_eq!(rt; fault_of(1, 1, 4, 1), Some(ShapeFault::Levels(4)));
+        assert_eq!(rt; fault_of(1, 1, 1, 9), Some(ShapeFault::Rows(9)));
+    }
+
+    #[test]
+    fn numbers_of_words(rt: HostRuntime) {
+        if let Ok(shape) = Shape::new(3, 1, 1, 2) {
+            assert_eq!(rt; shape.value_word(Kind::Sub, 1, 0), 4);
+            assert_eq!(rt; shape.last_word(Kind::Add, 1, 0), 2);
+            assert_eq!(rt; shape.done_word(Kind::Sub, 1, 0), 6);
+            assert_eq!(rt; shape.announce_word(2, Kind::Sub, 1), 12);
+            assert_eq!(rt; shape.row_of(2, Kind::Sub, 1, 1), 11);
+            assert_eq!(rt; shape.row_word(11, Field::Prev), 48);
+        }
+        if let Ok(shape) = Shape::new(7, 5, 3, 1) {
+            assert_eq!(rt; shape.width(2), 3);
+            assert_eq!(rt; shape.width(3), 2);
+            assert_eq!(rt; shape.aggregator_of(6, 1), 1);
+            assert_eq!(rt; shape.aggregator_of(4, 2), 2);
+            assert_eq!(rt; shape.aggregator_of(4, 3), 1);
+        }
+    }
+}

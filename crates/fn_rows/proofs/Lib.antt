@@ -1,0 +1,13 @@
+pub mod Put
+pub mod Invariant
+pub mod Moves
+pub mod Words
+pub mod Steps
+pub mod Laws
+pub mod Walks
+pub mod Examples
+pub mod Law
+pub mod Found
+pub mod Fields
+pub mod Taken
+pub mod Free

@@ -1,0 +1,6 @@
+pub mod Allowed
+pub mod Cutting
+pub mod OneByOne
+pub mod SoundLines
+pub mod Spelled
+pub mod Whole

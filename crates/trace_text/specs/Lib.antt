@@ -1,0 +1,6 @@
+pub mod Grammar
+pub mod Laws
+pub mod Order
+pub mod Script
+pub mod Sound
+pub mod Text
