@@ -214,11 +214,11 @@ event_keeps start log ok legal kept event allowed pass kind level low high fills
           subst (λ (q : ℕ). HasFreeRow start (effect start s event) kind level q) (sym same) (was.0.0, stays.0, stays.1)
     ]
 
-legal_push : (start : Start) (log : List Event) (event : Event) (s : State) → Legal start log s → Allowed start (run start log s) event → Legal start (log ++ event ∷ []) s
+pub legal_push : (start : Start) (log : List Event) (event : Event) (s : State) → Legal start log s → Allowed start (run start log s) event → Legal start (log ++ event ∷ []) s
 legal_push start [] event s legal allowed = (allowed, tt)
 legal_push start (x ∷ log) event s legal allowed = (legal.0, legal_push start log event (effect start s x) legal.1 allowed)
 
-run_push : (start : Start) (log : List Event) (event : Event) (s : State) → run start (log ++ event ∷ []) s ≡ effect start (run start log s) event
+pub run_push : (start : Start) (log : List Event) (event : Event) (s : State) → run start (log ++ event ∷ []) s ≡ effect start (run start log s) event
 run_push start [] event s = refl
 run_push start (x ∷ log) event s = run_push start log event (effect start s x)
 

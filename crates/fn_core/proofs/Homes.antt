@@ -12,7 +12,7 @@ use Rattle.fn_layout.specs.Words.{Name, Main, Value, Last, Done, Announcement, R
 use Rattle.fn_layout.proofs.Read.{names_are_read, numbers_are_named}
 use Rattle.fn_layout.proofs.Members.{members_are_numbered}
 use Rattle.fn_core.specs.State.{Start, State, put_at}
-use Rattle.fn_core.specs.Words.{link, word, words_of}
+use Rattle.fn_core.specs.Words.{link, told_field, word, words_of}
 use Rattle.fn_core.proofs.Lists.{get-list_of, list_of-same, list_of-set}
 use Rattle.fn_core.proofs.Put.{same_place, put_at_there}
 
@@ -41,11 +41,6 @@ local_word (Announced m) t = t.announced m
 local_word (RowAt row field) t = field_at field t row
 
 -- what the table has for a word of an aggregator: the words that name rows name them by their numbers in the layout
-abbrev pub told_field : Shape → Kind → ℕ → ℕ → Field → ℕ → ℕ
-told_field shape kind level index Lo n = n
-told_field shape kind level index Base n = n
-told_field shape kind level index Prev n = link shape kind level index n
-
 abbrev pub told : Shape → Kind → ℕ → ℕ → Local → ℕ → ℕ
 told shape kind level index Total n = n
 told shape kind level index Newest n = link shape kind level index n

@@ -45,5 +45,26 @@ pub mod Grows
 pub mod Joins
 pub mod Filling
 pub mod WordExamples
+pub mod Mirror
+pub mod Reached
+pub mod Taken
+pub mod Seats
+pub mod OnMain
+pub mod Underway
+pub mod Follows
+pub mod Called
+pub mod Opened
+pub mod Looks
+pub mod Decided
+pub mod Tries
+pub mod Pushed
 mod Examples
 mod Again
+pub mod Among
+pub mod Beginning
+pub mod Opens
+pub mod Waits
+pub mod Told
+pub mod Left
+pub mod OwnRows
+pub mod HandRows

@@ -13,8 +13,9 @@ use Rattle.fn_layout.specs.Tree.{aggregator, member, members, pass_of}
 use Rattle.fn_layout.specs.Words.{slot_number, row_number}
 use Rattle.fn_layout.proofs.Tree.{aggregator_below}
 use Rattle.fn_layout.proofs.Members.{numbers_are_members}
-use Rattle.fn_core.specs.State.{State, opened}
-use Rattle.fn_core.specs.Machine.{Names, run}
+use Rattle.fn_core.specs.declared.Event.{Event}
+use Rattle.fn_core.specs.State.{Start, State, stage, opened}
+use Rattle.fn_core.specs.Machine.{IsStart, Legal, Names, run}
 use Rattle.fn_core.specs.Words.{row_there}
 use Rattle.fn_core.specs.Laws.{RowsHaveNames}
 use Rattle.fn_core.proofs.Laws.{holds}
@@ -38,12 +39,17 @@ batch_in_hand done announced linked (Over at row) r is c = let same : row ≡ r 
 batch_in_hand done announced linked (Hit at row lo) r is c = let same : row ≡ r = cc (is) in (c.0, c.1, c.2 ∙ same)
 batch_in_hand done announced linked _ r is c = absurd (cc (is))
 
-pub rows_have_names : RowsHaveNames
-rows_have_names start log ok legal p kind level r is =
+-- the row that a late call has in hand is a member's
+pub hand_owned : (start : Start) (log : List Event) → IsStart start → Legal start log (opened start) → (p : ℕ) (kind : Kind) (level r : ℕ) → row_in_hand (stage start (run start log (opened start)) kind level p) ≡ Some r
+    → r / start.shape.rows < members start.shape level (aggregator start.shape p level)
+hand_owned start log ok legal p kind level r is =
     let s : State = run start log (opened start) in
     let index : ℕ = aggregator start.shape p level in
     let m : ℕ = member start.shape level p in
     let t : Traced = s.rows kind level index in
     let inv : Inv (members start.shape level index) start.shape.rows t = (holds start log ok legal).0.good.inv kind level index in
     let batch = batch_in_hand t.done (t.announced m) t.linked (t.stage m) r is (inv.calm m) in
-    there_named start.shape kind level p r (subst (λ (x : ℕ). x / start.shape.rows < members start.shape level index) batch.2 (linked_owned start log ok legal kind level index batch.0 batch.1))
+    subst (λ (x : ℕ). x / start.shape.rows < members start.shape level index) batch.2 (linked_owned start log ok legal kind level index batch.0 batch.1)
+
+pub rows_have_names : RowsHaveNames
+rows_have_names start log ok legal p kind level r is = there_named start.shape kind level p r (hand_owned start log ok legal p kind level r is)

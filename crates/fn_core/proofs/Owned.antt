@@ -61,34 +61,34 @@ IsPlain _ = Unit {0}
 
 -- by them a member that has come stays so
 module _ (members rows : ℕ) (t : Traced) (inv : Inv members rows t) (m : ℕ) (range : m < members) where
-  announce_stays : Guard members rows t.state (local_step.Announce m) → has_come ((traced t (local_step.Announce m)).stage m) ≡ has_come (t.stage m)
+  pub announce_stays : Guard members rows t.state (local_step.Announce m) → has_come ((traced t (local_step.Announce m)).stage m) ≡ has_come (t.stage m)
   announce_stays (seen, e) = ap has_come (announces members rows t inv m range seen e).here ∙ sym (ap has_come e)
 
-  look_stays : Guard members rows t.state (local_step.Look m) → has_come ((traced t (local_step.Look m)).stage m) ≡ has_come (t.stage m)
+  pub look_stays : Guard members rows t.state (local_step.Look m) → has_come ((traced t (local_step.Look m)).stage m) ≡ has_come (t.stage m)
   look_stays (at, e) = ap has_come (looks members rows t inv m range at e).here ∙ looked_cases (λ x. has_come x ≡ true) at t.done (λ x. refl) (λ x. refl) (λ x. refl) ∙ sym (ap has_come e)
 
-  close_stays : Guard members rows t.state (local_step.Close m) → has_come ((traced t (local_step.Close m)).stage m) ≡ has_come (t.stage m)
+  pub close_stays : Guard members rows t.state (local_step.Close m) → has_come ((traced t (local_step.Close m)).stage m) ≡ has_come (t.stage m)
   close_stays (at, e) = ap has_come (closes members rows t inv m range at e).here ∙ sym (ap has_come e)
 
-  hand_stays : (b : ℕ) → Guard members rows t.state (local_step.Hand_base m b) → has_come ((traced t (local_step.Hand_base m b)).stage m) ≡ has_come (t.stage m)
+  pub hand_stays : (b : ℕ) → Guard members rows t.state (local_step.Hand_base m b) → has_come ((traced t (local_step.Hand_base m b)).stage m) ≡ has_come (t.stage m)
   hand_stays b (at, hi, e) = ap has_come (hands members rows t inv m range at hi b e).here ∙ sym (ap has_come e)
 
-  head_stays : Guard members rows t.state (local_step.Head m) → has_come ((traced t (local_step.Head m)).stage m) ≡ has_come (t.stage m)
+  pub head_stays : Guard members rows t.state (local_step.Head m) → has_come ((traced t (local_step.Head m)).stage m) ≡ has_come (t.stage m)
   head_stays (inl (at, hi, b, e)) = ap has_come (heads members rows t inv m range at hi b e).here ∙ sym (ap has_come e)
   head_stays (inr (at, e)) = ap has_come (heads_late members rows t inv m range at e).here ∙ sym (ap has_come e)
 
-  fill_stays : (r : ℕ) (field : Field) (word : ℕ) → Guard members rows t.state (local_step.Fill m r field word) → has_come ((traced t (local_step.Fill m r field word)).stage m) ≡ has_come (t.stage m)
+  pub fill_stays : (r : ℕ) (field : Field) (word : ℕ) → Guard members rows t.state (local_step.Fill m r field word) → has_come ((traced t (local_step.Fill m r field word)).stage m) ≡ has_come (t.stage m)
   fill_stays r Lo word (at, hi, b, h, e, own, free, same) = ap has_come (fills_lo members rows t inv m range at hi b h r word e own free same).here ∙ sym (ap has_come e)
   fill_stays r Base word (at, hi, b, h, e, same) = ap has_come (fills_base members rows t inv m range at hi b h r word e same).here ∙ sym (ap has_come e)
   fill_stays r Prev word (at, hi, b, h, e, same) = ap has_come (fills_prev members rows t inv m range at hi b h r word e same).here ∙ sym (ap has_come e)
 
-  point_stays : Guard members rows t.state (local_step.Point m) → has_come ((traced t (local_step.Point m)).stage m) ≡ has_come (t.stage m)
+  pub point_stays : Guard members rows t.state (local_step.Point m) → has_come ((traced t (local_step.Point m)).stage m) ≡ has_come (t.stage m)
   point_stays (at, hi, b, r, e) = ap has_come (points members rows t inv m range at hi b r e).here ∙ sym (ap has_come e)
 
-  publish_stays : Guard members rows t.state (local_step.Publish m) → has_come ((traced t (local_step.Publish m)).stage m) ≡ has_come (t.stage m)
+  pub publish_stays : Guard members rows t.state (local_step.Publish m) → has_come ((traced t (local_step.Publish m)).stage m) ≡ has_come (t.stage m)
   publish_stays (at, hi, b, r, e) = ap has_come (publishes members rows t inv m range at hi b r e).here ∙ sym (ap has_come e)
 
-  peek_stays : Guard members rows t.state (local_step.Peek m) → has_come ((traced t (local_step.Peek m)).stage m) ≡ has_come (t.stage m)
+  pub peek_stays : Guard members rows t.state (local_step.Peek m) → has_come ((traced t (local_step.Peek m)).stage m) ≡ has_come (t.stage m)
   peek_stays (inl (at, r, e)) = ap has_come (peeks_lo members rows t inv m range at r e).here ∙ peeked_cases (λ x. has_come x ≡ true) at r (t.lo r) (λ x. refl) (λ x. refl) ∙ sym (ap has_come e)
   peek_stays (inr (inl (at, r, e))) = ap has_come (peeks_prev members rows t inv m range at r e).here ∙ sym (ap has_come e)
   peek_stays (inr (inr (at, r, lo, e))) = ap has_come (peeks_base members rows t inv m range at r lo e).here ∙ sym (ap has_come e)
@@ -110,7 +110,7 @@ module _ (start : Start) (ok : IsStart start) (s : State) (w : Whole start s) (c
   }
 
 module _ (start : Start) (ok : IsStart start) (s : State) (w : Whole start s) (c : IsCounted start s) (o : Owned start s) (p : ℕ) (range : p < start.shape.passes) where
-  nowhere : {A : Type 0} (kind : Kind) → (s.callers p).position ≡ Climbing kind 0 → A
+  pub nowhere : {A : Type 0} (kind : Kind) → (s.callers p).position ≡ Climbing kind 0 → A
   nowhere kind is = absurd (not_below start ok s w p range kind is)
 
   -- what a step of the pass has to show for itself
@@ -143,14 +143,14 @@ module _ (start : Start) (ok : IsStart start) (s : State) (w : Whole start s) (c
         (λ not n lt. omega (arith, counts_grow start ok s w c o next w' c' more grown p n, o.all p (λ u. not (kept u)) n (omega (arith, made, lt))))
 
   -- the pass's stage at its leaf, where it takes a step elsewhere
-  own_there : (x : State) (kind : Kind) (below : ℕ) (step : ℕ → local_step.Step) (k : Kind) → (1 ≡ suc below → k ≡ kind → ⊥) → stage start (local start x kind (suc below) p step) k 1 p ≡ stage start x k 1 p
+  pub own_there : (x : State) (kind : Kind) (below : ℕ) (step : ℕ → local_step.Step) (k : Kind) → (1 ≡ suc below → k ≡ kind → ⊥) → stage start (local start x kind (suc below) p step) k 1 p ≡ stage start x k 1 p
   own_there x kind below step k not = elim (same_place k kind 1 (suc below) (aggregator start.shape p 1) (aggregator start.shape p (suc below))) [
     | inl is ↦ absurd (not is.1 is.0)
     | inr other ↦ ap (λ (t : Traced). t.stage (member start.shape 1 p)) (put_at_there x.rows kind (suc below) (aggregator start.shape p (suc below)) (traced (x.rows kind (suc below) (aggregator start.shape p (suc below))) (step (member start.shape (suc below) p))) k 1 (aggregator start.shape p 1) other)
   ]
 
   -- a call that is underway stays so
-  local_kept : (kind : Kind) (below : ℕ) (step : ℕ → local_step.Step)
+  pub local_kept : (kind : Kind) (below : ℕ) (step : ℕ → local_step.Step)
       → has_come ((traced (s.rows kind (suc below) (aggregator start.shape p (suc below))) (step (member start.shape (suc below) p))).stage (member start.shape (suc below) p)) ≡ has_come (stage start s kind (suc below) p)
       → IsUnderway start s p → IsUnderway start (local start s kind (suc below) p step) p
   local_kept kind (suc b) step stays u = (u.0, ap has_come (own_there s kind (suc b) step u.0 (λ x y. omega (arith, x))) ∙ u.1)
@@ -160,10 +160,10 @@ module _ (start : Start) (ok : IsStart start) (s : State) (w : Whole start s) (c
   ]
 
   -- nothing is underway where the pass stands nowhere
-  out_idle : ((k : Kind) (l : ℕ) → stage start s k l p ≡ Out) → IsUnderway start s p → ⊥
+  pub out_idle : ((k : Kind) (l : ℕ) → stage start s k l p ≡ Out) → IsUnderway start s p → ⊥
   out_idle out u = false≢true (sym (ap has_come (out u.0 1)) ∙ u.1)
 
-  abbrev inv_at : (kind : Kind) (below : ℕ) → Inv (members start.shape (suc below) (aggregator start.shape p (suc below))) start.shape.rows (s.rows kind (suc below) (aggregator start.shape p (suc below)))
+  abbrev pub inv_at : (kind : Kind) (below : ℕ) → Inv (members start.shape (suc below) (aggregator start.shape p (suc below))) start.shape.rows (s.rows kind (suc below) (aggregator start.shape p (suc below)))
   inv_at kind below = w.good.inv kind (suc below) (aggregator start.shape p (suc below))
 
   unchanged : history_in start s ≡ history_in start s ++ []
@@ -200,7 +200,7 @@ module _ (start : Start) (ok : IsStart start) (s : State) (w : Whole start s) (c
   abbrev batch_of : Kind → ℕ → MainStep
   batch_of kind level = BatchStep kind (aggregator start.shape p level) (lo_of (stage start s kind level p)) (hi_of (stage start s kind level p))
 
-  applies_kept : (kind : Kind) (level amount at hi : ℕ) → 1 ≤ level → stage start s kind level p ≡ Shut at hi → IsUnderway start s p → IsUnderway start (applies start s p kind level amount) p
+  pub applies_kept : (kind : Kind) (level amount at hi : ℕ) → 1 ≤ level → stage start s kind level p ≡ Shut at hi → IsUnderway start s p → IsUnderway start (applies start s p kind level amount) p
   applies_kept kind zero amount at hi low e u = absurd (omega arith)
   applies_kept kind (suc below) amount at hi low e u =
       local_kept kind below (λ m. local_step.Hand_base m s.main) (hand_stays (members start.shape (suc below) (aggregator start.shape p (suc below))) start.shape.rows (s.rows kind (suc below) (aggregator start.shape p (suc below))) (inv_at kind below) (member start.shape (suc below) p) (member_within start.shape ok.shape below p range) s.main (at, hi, e)) u
@@ -291,20 +291,20 @@ module _ (start : Start) (ok : IsStart start) (s : State) (w : Whole start s) (c
 
   -- what a step at one aggregator needs
   module _ (kind : Kind) (below : ℕ) where
-    abbrev count_here : ℕ
+    abbrev pub count_here : ℕ
     count_here = members start.shape (suc below) (aggregator start.shape p (suc below))
 
-    abbrev t_here : Traced
+    abbrev pub t_here : Traced
     t_here = s.rows kind (suc below) (aggregator start.shape p (suc below))
 
-    abbrev m_here : ℕ
+    abbrev pub m_here : ℕ
     m_here = member start.shape (suc below) p
 
-    in_range : m_here < count_here
+    pub in_range : m_here < count_here
     in_range = member_within start.shape ok.shape below p range
 
   -- a guard at a level, one above that below
-  at_level : (kind : Kind) (level below : ℕ) (step : ℕ → local_step.Step) → level ≡ suc below → MayTake start s kind level p step → MayTake start s kind (suc below) p step
+  pub at_level : (kind : Kind) (level below : ℕ) (step : ℕ → local_step.Step) → level ≡ suc below → MayTake start s kind level p step → MayTake start s kind (suc below) p step
   at_level kind level below step e guard = subst (λ (l : ℕ). MayTake start s kind l p step) e guard
 
   fill_owned : (row : ℕ) (field : Field) (may : May start s p (Fill row field)) (kind : Kind) (level : ℕ) → Climbs start s p kind level (fills start s kind level p row field) → Owned start (moves start s p (Fill row field))

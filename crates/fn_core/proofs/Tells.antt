@@ -1,5 +1,6 @@
 -- After every legal log, each step tells its pass what it is then.
 use Rattle.std.proofs.Common.{◌≡◌, ℕ, zero, suc, ◌+◌, ◌-◌, ◌*◌, ◌/◌, ◌%◌, ◌<◌, List, [], ◌∷◌, refl, sym, ap, subst, ◌∙◌, arith}
+use Rattle.std.specs.Prelude.{Some}
 use Rattle.std.proofs.lemmas.Nat.{div-mul-add, mod-mul-add, mod_below}
 use Rattle.fn_model.specs.declared.Kind.{Kind}
 use Rattle.fn_model.specs.declared.Kind.TheVariants.{Add, Read}
@@ -9,6 +10,7 @@ use Rattle.fn_rows.specs.declared.Stage.{Stage}
 use Rattle.fn_rows.specs.declared.Stage.TheVariants.{Out, Saw, Told, Waiting, Lead, Late, Shut, Based, Headed, FilledLo, FilledBase, Filled, Pointed, At, Over, Hit, Got}
 use Rattle.fn_rows.specs.Machine.{offset, peek_by, peeked}
 use Rattle.fn_rows.specs.Machine as step
+use Rattle.fn_rows.specs.Aggregator.{asked}
 use Rattle.fn_rows.specs.Trace.{Batch, Traced}
 use Rattle.fn_rows.specs.Law.{IsIn}
 use Rattle.fn_rows.proofs.Invariant.{Inv, Calm}
@@ -43,7 +45,7 @@ module _ (start : Start) (s : State) (pass : ℕ) (kind : Kind) (level : ℕ) (f
   index = aggregator start.shape pass level
 
   -- the word of a row in hand
-  peek_word : (row r : ℕ) (field : Field) → Names start.shape kind level index row r → word start s (row_name start.shape row field) ≡ row_word start.shape kind level index there r field
+  pub peek_word : (row r : ℕ) (field : Field) → Names start.shape kind level index row r → word start s (row_name start.shape row field) ≡ row_word start.shape kind level index there r field
   peek_word row r field (p, n, same, of_pass, number) =
       let shape = start.shape in
       let m : ℕ = member shape level p in
@@ -115,14 +117,14 @@ module _ (start : Start) (log : List Event) (ok : IsStart start) (legal : Legal 
   placed_at kind level position = subst (IsPlaced start.shape) position ((tidy_run start log (opened start) (tidy_opened start) legal).placed pass)
 
   -- the word that names the newest row names a member's
-  last_mine : (kind : Kind) (level : ℕ) → NamesMine start.shape level (aggregator start.shape pass level) (place start s kind level pass).last
+  pub last_mine : (kind : Kind) (level : ℕ) → NamesMine start.shape level (aggregator start.shape pass level) (place start s kind level pass).last
   last_mine kind level =
       let index : ℕ = aggregator start.shape pass level in
       let inv : Inv (members start.shape level index) start.shape.rows (place start s kind level pass) = (holds start log ok legal).0.good.inv kind level index in
       subst (NamesMine start.shape level index) (sym inv.last_is) (link_mine start.shape level index (place start s kind level pass).linked (linked_owned start log ok legal kind level index))
 
   -- and so does `prev` of the row that a late member goes over
-  over_mine : (kind : Kind) (level at r : ℕ) → stage start s kind level pass ≡ Over at r → NamesMine start.shape level (aggregator start.shape pass level) ((place start s kind level pass).prev r)
+  pub over_mine : (kind : Kind) (level at r : ℕ) → stage start s kind level pass ≡ Over at r → NamesMine start.shape level (aggregator start.shape pass level) ((place start s kind level pass).prev r)
   over_mine kind level at r e =
       let index : ℕ = aggregator start.shape pass level in
       let m : ℕ = member start.shape level pass in
@@ -164,8 +166,8 @@ module _ (start : Start) (log : List Event) (ok : IsStart start) (legal : Legal 
   aggregator_of kind level position = let p = placed_at kind level position in (p.0, p.1, aggregator_below start.shape pass level)
 
   -- the row that a late member has in hand is a member's
-  hand_mine : (kind : Kind) (level row : ℕ) (field : Field) (g : Stage) → stage start s kind level pass ≡ g → MayPeek start kind level (aggregator start.shape pass level) g row field
-      → (r : ℕ) × Names start.shape kind level (aggregator start.shape pass level) row r × (r / start.shape.rows < members start.shape level (aggregator start.shape pass level))
+  pub hand_mine : (kind : Kind) (level row : ℕ) (field : Field) (g : Stage) → stage start s kind level pass ≡ g → MayPeek start kind level (aggregator start.shape pass level) g row field
+      → (r : ℕ) × Names start.shape kind level (aggregator start.shape pass level) row r × (r / start.shape.rows < members start.shape level (aggregator start.shape pass level)) × (asked g ≡ Some (r, field))
   hand_mine kind level row field g e may = go field g e may
     where
       calm : (g : Stage) → stage start s kind level pass ≡ g → Calm (place start s kind level pass).done ((place start s kind level pass).announced (member start.shape level pass)) (place start s kind level pass).linked g
@@ -176,10 +178,10 @@ module _ (start : Start) (log : List Event) (ok : IsStart start) (legal : Legal 
       mine r b i e = subst (λ (x : ℕ). x / start.shape.rows < members start.shape level (aggregator start.shape pass level)) e (linked_owned start log ok legal kind level (aggregator start.shape pass level) b i)
 
       go : (field : Field) (g : Stage) → stage start s kind level pass ≡ g → MayPeek start kind level (aggregator start.shape pass level) g row field
-          → (r : ℕ) × Names start.shape kind level (aggregator start.shape pass level) row r × (r / start.shape.rows < members start.shape level (aggregator start.shape pass level))
-      go Lo (At at r) e h = let c = calm (At at r) e in (r, h, mine r c.0 c.1 c.2)
-      go Prev (Over at r) e h = let c = calm (Over at r) e in (r, h, mine r c.0 c.1 c.2)
-      go Base (Hit at r lo) e h = let c = calm (Hit at r lo) e in (r, h, mine r c.0 c.1 c.2)
+          → (r : ℕ) × Names start.shape kind level (aggregator start.shape pass level) row r × (r / start.shape.rows < members start.shape level (aggregator start.shape pass level)) × (asked g ≡ Some (r, field))
+      go Lo (At at r) e h = let c = calm (At at r) e in (r, h, mine r c.0 c.1 c.2, refl)
+      go Prev (Over at r) e h = let c = calm (Over at r) e in (r, h, mine r c.0 c.1 c.2, refl)
+      go Base (Hit at r lo) e h = let c = calm (Hit at r lo) e in (r, h, mine r c.0 c.1 c.2, refl)
       go Base (At at r) e h = absurd h
       go Prev (At at r) e h = absurd h
       go Lo (Over at r) e h = absurd h

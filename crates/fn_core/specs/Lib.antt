@@ -4,9 +4,13 @@ pub mod Machine
 pub mod Batches
 pub mod Laws
 pub mod Words
+pub mod Fields
 pub mod After
 pub mod Order
+pub mod Begin
 pub mod Steps
 pub mod Positions
 pub mod Bound
 pub mod Filling
+pub mod Calls
+pub mod Opening

@@ -2,7 +2,7 @@
 --     is_free start s kind level pass n      the pass's n-th row may be filled
 --     first_free start s kind level pass      the first of the pass's rows that may be filled
 --     next_move start s pass      the next step of the pass's call
-use Rattle.std.specs.Prelude.{ℕ, zero, suc, ◌+◌, ◌*◌, ◌%◌, Bool, true, false, ◌&&◌, ◌||◌, ◌==◌, nat_lt, if◌then◌else◌, Option, Some, None}
+use Rattle.std.specs.Prelude.{ℕ, zero, suc, ◌+◌, ◌*◌, ◌%◌, ◌<◌, ◌≤◌, Bool, true, false, ◌&&◌, ◌||◌, ◌==◌, nat_lt, if◌then◌else◌, Option, Some, None}
 use Rattle.fn_model.specs.declared.Kind.{Kind}
 use Rattle.fn_model.specs.declared.Kind.TheVariants.{Add}
 use Rattle.fn_model.specs.Calls.{same_kind}
@@ -34,6 +34,10 @@ unfoldable pub first_below : (ℕ → Bool) → ℕ → ℕ
 first_below test zero = 0
 first_below test (suc n) = if test 0 then 0 else suc (first_below (λ k. test (suc k)) n)
 
+-- n is the first number below a count of which it holds, or the count
+abbrev pub IsFirst : (ℕ → Type 0) → ℕ → ℕ → Type 0
+IsFirst Holds count n = (n ≤ count) × ((k : ℕ) → k < n → Holds k → ⊥) × (n < count → Holds n)
+
 -- whether the pass's n-th row may be filled: it never was, or what the pass found of each other member lets it be filled again
 abbrev pub is_free : Start → State → Kind → ℕ → ℕ → ℕ → Bool
 is_free start s kind level pass n =
@@ -63,6 +67,17 @@ enters_main start s pass kind level = if same_kind kind Add && (start.cap == no_
 abbrev pub goes_up : Start → State → ℕ → Kind → ℕ → Move
 goes_up start s pass kind level = if level == start.shape.levels then enters_main start s pass kind level else See kind (suc level)
 
+-- the next step of a call that fills a row, or has one in hand
+abbrev pub next_on_row : Start → State → ℕ → Kind → ℕ → Stage → Move
+next_on_row start s pass kind level (Headed at hi b h) = Fill (row_number start.shape pass kind level (first_free start s kind level pass)) Lo
+next_on_row start s pass kind level (FilledLo at hi b h r) = Fill (own_row start.shape pass kind level r) Base
+next_on_row start s pass kind level (FilledBase at hi b h r) = Fill (own_row start.shape pass kind level r) Prev
+next_on_row start s pass kind level (Filled at hi b r) = Point kind level (own_row start.shape pass kind level r)
+next_on_row start s pass kind level (At at r) = Peek (row_there start.shape kind level (aggregator start.shape pass level) r) Lo
+next_on_row start s pass kind level (Over at r) = Peek (row_there start.shape kind level (aggregator start.shape pass level) r) Prev
+next_on_row start s pass kind level (Hit at r lo) = Peek (row_there start.shape kind level (aggregator start.shape pass level) r) Base
+next_on_row start s pass kind level _ = Glance
+
 -- the next step of a call that has climbed to this level and stands there so
 abbrev pub next_at : Start → State → ℕ → Kind → ℕ → Stage → Move
 next_at start s pass kind level Out = Glance
@@ -73,15 +88,9 @@ next_at start s pass kind level (Lead at) = Close kind level
 next_at start s pass kind level (Late at) = Head kind level
 next_at start s pass kind level (Shut at hi) = goes_up start s pass kind level
 next_at start s pass kind level (Based at hi b) = Head kind level
-next_at start s pass kind level (Headed at hi b h) = Fill (row_number start.shape pass kind level (first_free start s kind level pass)) Lo
-next_at start s pass kind level (FilledLo at hi b h r) = Fill (own_row start.shape pass kind level r) Base
-next_at start s pass kind level (FilledBase at hi b h r) = Fill (own_row start.shape pass kind level r) Prev
-next_at start s pass kind level (Filled at hi b r) = Point kind level (own_row start.shape pass kind level r)
 next_at start s pass kind level (Pointed at hi b r) = Publish kind level
-next_at start s pass kind level (At at r) = Peek (row_there start.shape kind level (aggregator start.shape pass level) r) Lo
-next_at start s pass kind level (Over at r) = Peek (row_there start.shape kind level (aggregator start.shape pass level) r) Prev
-next_at start s pass kind level (Hit at r lo) = Peek (row_there start.shape kind level (aggregator start.shape pass level) r) Base
 next_at start s pass kind level (Got base ahead) = Leave kind level
+next_at start s pass kind level stage = next_on_row start s pass kind level stage
 
 -- .. of a pass in this position
 abbrev pub next_by : Start → State → ℕ → Position → Move

@@ -29,6 +29,12 @@ abbrev pub link : Shape → Kind → ℕ → ℕ → ℕ → ℕ
 link shape kind level index zero = 0
 link shape kind level index (suc row) = suc (row_there shape kind level index row)
 
+-- what the table has for a field of a row: the words that name rows name them by their numbers in the layout
+abbrev pub told_field : Shape → Kind → ℕ → ℕ → Field → ℕ → ℕ
+told_field shape kind level index Lo n = n
+told_field shape kind level index Base n = n
+told_field shape kind level index Prev n = link shape kind level index n
+
 -- the word names no row, or one of a member, by its number at the aggregator
 abbrev pub NamesMine : Shape → ℕ → ℕ → ℕ → Type 0
 NamesMine shape level index word = (word ≡ 0) ⊎ ((r : ℕ) × (word ≡ suc r) × (r / shape.rows < members shape level index))

@@ -6,9 +6,20 @@ ghost use Rattle.fn_core.specs.Laws.{RowsAreLawful, RowsHaveNames, FreeRowsStay,
 ghost use Rattle.fn_core.specs.Laws.{EventsAreLocal, GuardsStay, EventsAreSteps, PositionsFit, CallsAlwaysGoOn, StepsRunOut, CallsAreShort};
 ghost use Rattle.fn_core.specs.After.{StepsTell, WordsAreFound};
 
+mod aggregator_steps;
+mod answer;
+mod begin;
+mod funnel;
+mod machine;
+mod main_steps;
+mod opening;
+mod order;
+
+pub use answer::{Answer, Blocked, CoreBegun, CoreStep, NoMemory, OpenFault, Why};
 pub use fn_layout::Shape;
 use fn_model::Kind;
 use fn_rows::Field;
+pub use funnel::Core;
 use std::marker::Model;
 
 /// What a funnel opens with: its shape, the main word, the number at which additions stop, and what each pass may add and subtract in all.

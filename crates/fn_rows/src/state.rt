@@ -105,6 +105,14 @@ impl RowState {
         self.stage[member as usize]
     }
 
+    /// The number that the member has announced plus 1, or 0.
+    pub fn announced(&self, member: u32) -> u64
+        requires { member < self.now.members }
+        ensures { result ≡ (state_of self.now).announced member }
+    {
+        self.announced[member as usize]
+    }
+
     /// The end of the batch that was published last in this row, or 0.
     pub fn end(&self, row: u32) -> u64
         requires { row < self.now.members * self.now.rows }

@@ -5,7 +5,7 @@ use Rattle.std.specs.List.{AllByRecursion}
 use Rattle.std.proofs.lemmas.List.Elements.{All-from_recursion}
 use Rattle.std.proofs.lemmas.List.Sums.{sum_by-cons}
 use Rattle.trace_text.specs.Order.{amount}
-use Rattle.trace_text.specs.Script.{◌>>=◌, Content, FirstLine, Gives, Header, after_funnel, amount_of, content, header_of, header_or, line_of, lines_of, next_number, no_more, order_of, pass_of, required, script_from, shaped, third_of, total_with, verb_line, verb_of, within_limit}
+use Rattle.trace_text.specs.Script.{◌>>=◌, capped, Content, FirstLine, Gives, Header, after_funnel, amount_of, content, header_of, header_or, line_of, lines_of, next_number, no_more, order_of, pass_of, required, script_from, shaped, third_of, total_with, verb_line, verb_of, within_limit}
 use Rattle.trace_text.specs.Sound.{HasAmount, HasPasses, IsNumbered, IsSound, MeetsBelow, RisesAbove, total_amount}
 use Rattle.trace_text.specs.Text.{number, is_number, value, words}
 use Rattle.fn_layout.specs.declared.shape.ShapeFault.{ShapeFault}
@@ -229,7 +229,7 @@ header_of-bound at all header h =
     let rows = bind_ok (next_number at levels.0.1) _ header levels.2 in
     let opening = bind_ok (next_number at rows.0.1) _ header rows.2 in
     let end = bind_ok (no_more at opening.0.1) _ header opening.2 in
-    let last = shaped-opening _ _ _ _ _ header end.2 in
+    let last = shaped-opening (capped passes.0.0) (capped leaves.0.0) (capped levels.0.0) (capped rows.0.0) opening.0.0 header end.2 in
     rw last (next_number-bound at rows.0.1 opening.0 opening.1)
 
 -- a script that is read from a first line on

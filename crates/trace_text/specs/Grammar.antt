@@ -5,7 +5,6 @@ use Rattle.fn_layout.specs.Shape.{first_fault}
 use Rattle.trace_text.specs.Script.{Content, Header}
 use Rattle.trace_text.specs.Sound.{total_amount}
 use Rattle.trace_text.specs.Text.{lines, number, words}
-use Rattle.trace_text.specs.declared.reading.TheConstants.{MOST_LINES}
 use Rattle.trace_text.specs.declared.scripts.Order.{Order}
 use Rattle.trace_text.specs.declared.scripts.Order.TheVariants.{Add, Sub, Direct, SubDirect, Read, Step, Poll, Meet}
 use Rattle.trace_text.specs.declared.scripts.ScriptLine.{ScriptLine}
@@ -60,5 +59,5 @@ pub record IsScript (bytes : List ℕ) (script : Content) : Type 0 where
   pub blank : AllByRecursion (λ line. words line ≡ []) front
   pub header : SpellsHeader script.header (words first)
   pub orders : SpellsLines script.header.passes (length front + 2) script.lines rest
-  pub limit : length (lines bytes) ≤ MOST_LINES
+  pub limit : length (lines bytes) ≤ 65536
   pub total : script.header.opening + total_amount script.lines < 2 ^ 63

@@ -1,7 +1,6 @@
 -- How a text falls into lines and words, and which words are numbers.
 use Rattle.std.specs.Prelude.{ℕ, ◌+◌, ◌-◌, ◌*◌, ◌==◌, ◌&&◌, Bool, false, not, nat_le, nat_lt, if◌then◌else◌, List, [], ◌∷◌, length, Option, Some, None, fold}
 use Rattle.std.specs.List.{list_all}
-use Rattle.trace_text.specs.declared.pieces.TheConstants.{MOST_DIGITS, MOST_NUMBER}
 
 -- a byte put before the first of some pieces
 abbrev pub onto : ℕ → List (List ℕ) → List (List ℕ)
@@ -47,8 +46,8 @@ value digits = fold (λ worth digit. worth * 10 + (digit - 48)) 0 digits
 
 -- whether a word is a number
 abbrev pub is_number : List ℕ → Bool
-is_number word = nat_lt 0 (length word) && nat_le (length word) MOST_DIGITS && list_all is_digit word && nat_le (value word) MOST_NUMBER
+is_number word = nat_lt 0 (length word) && nat_le (length word) 19 && list_all is_digit word && nat_le (value word) 9223372036854775807
 
--- the number that a word is
+-- the number that a word is: 1 to 19 digits, and a value below 2^63
 unfoldable pub number : List ℕ → Option ℕ
 number word = if is_number word then Some (value word) else None

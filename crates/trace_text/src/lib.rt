@@ -9,7 +9,7 @@ mod scripts;
 mod totals;
 
 pub use fn_layout::{Shape, ShapeFault};
-pub use reading::read_script;
+pub use reading::{fault_laws, read_script};
 pub use scripts::{NoMemory, Order, Script, ScriptFault, ScriptLine, ScriptLines};
 pub use totals::{allowance_laws, allowances};
 

@@ -1,9 +1,9 @@
 //! A line after the first one: a pass and an order.
-ghost use Rattle.std.specs.Prelude.{◌≡◌, ◌≤◌, Ok, Err, None, IfOk, MatchResult, option_map};
+ghost use Rattle.std.specs.Prelude.{◌≡◌, Ok, Err, None, MatchResult, option_map};
 ghost use Rattle.trace_text.specs.Text.{words};
 ghost use Rattle.trace_text.specs.Script.{amount_of, has_third, line_of, order_of, pass_of, third_of, verb_line, verb_of};
 
-use crate::pieces::{MOST_NUMBER, Words, number};
+use crate::pieces::{Words, number};
 use crate::scripts::{Order, ScriptFault, ScriptLine};
 
 // What the second word of a line says.

@@ -1,5 +1,5 @@
 //! The lines of a text, the words of a line, and numbers.
-ghost use Rattle.std.specs.Prelude.{◌≡◌, ◌≤◌, ◌==◌, ◌∷◌, [], not, length, IfSome, IsTrue, MatchOption};
+ghost use Rattle.std.specs.Prelude.{◌≡◌, ◌≤◌, ◌==◌, ◌∷◌, [], length, IfSome, IsTrue, MatchOption};
 ghost use Rattle.std.specs.List.{list_all, position_or_len, prefix_len};
 ghost use Rattle.trace_text.specs.Text.{lines, words, number, value, is_digit, without_return};
 

@@ -1,6 +1,7 @@
 //! Reading a script: line by line, up to the first fault.
 ghost use Rattle.std.specs.Prelude.{◌≡◌, ◌≤◌, ◌+◌, ◌^◌, ◌<◌, ◌++◌, length, Ok, Some, None, IfOk, IfSome, OnOk, MatchOption, option_to_list};
-ghost use Rattle.trace_text.specs.Script.{Content, FirstLine, Gives, content, first_with_words, has_words, lines_of, script_from, script_of, total_with, within_limit};
+ghost use Rattle.trace_text.specs.Script.{Content, Gives, content, first_with_words, has_words, lines_of, script_from, script_of, total_with, within_limit};
+ghost use Rattle.trace_text.specs.Faults.{FirstLineIsAtFault, LineFaultsAreFirst};
 ghost use Rattle.trace_text.specs.Grammar.{IsScript};
 ghost use Rattle.trace_text.specs.Sound.{IsNumbered, IsSound};
 
@@ -47,6 +48,13 @@ fn read_from(alloc: Global, at: u64, line: &[u8], lines: Lines<'_>) -> Result<Sc
         lines: ScriptLines { items },
     })
 }
+
+/// A line that is refused is so for its first fault, and lines that are refused are so for the
+/// first of them that is at fault.
+pub fn fault_laws()
+    ensures line_faults_are_first { LineFaultsAreFirst }
+    ensures first_line_is_at_fault { FirstLineIsAtFault }
+{}
 
 // Takes the lines up to the first with words, and gives that one with its number.
 fn first_line<'a>(lines: &mut Lines<'a>) -> Option<(u64, &'a [u8])>

@@ -1,0 +1,17 @@
+use Rattle.std.proofs.Common.{arith}
+use Rattle.fn_core.proofs.Looks.{climbs_in, weighs_below, weighs_under}
+use Rattle.fn_core.proofs.machine.Machine.weight_below.Goals as goal
+
+pub overflow_sub-level : goal.overflow_sub-level
+overflow_sub-level c = (climbs_in c.args.self.now c.requires.0.0 c.requires.0.1 c.args.pass c.args.kind c.args.level c.requires).2.0
+
+pub weight_of-requires-clause-slot : goal.weight_of-requires-clause-slot
+weight_of-requires-clause-slot c =
+    let slot = climbs_in c.args.self.now c.requires.0.0 c.requires.0.1 c.args.pass c.args.kind c.args.level c.requires in
+    (slot.0, slot.1, (omega (arith, slot.2.0, c.if-level-eq1.false), omega (arith, slot.2.1)))
+
+pub returns-then-level-eq1 : goal.returns-then-level-eq1
+returns-then-level-eq1 c = λ log stands. weighs_below c.args.self.now log stands c.args.pass c.args.kind c.args.level c.requires c.if-level-eq1.true
+
+pub returns-else-level-eq1 : goal.returns-else-level-eq1
+returns-else-level-eq1 c = λ log stands. weighs_under c.args.self.now log stands c.args.pass c.args.kind c.args.level c.requires _ c.if-level-eq1.false (c.weight_of.ensures log stands)

@@ -1,0 +1,5 @@
+pub mod Lines
+pub mod Words
+pub mod Play
+pub mod Doing
+pub mod Outcome

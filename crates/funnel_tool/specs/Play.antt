@@ -1,0 +1,153 @@
+-- What playing a script gives: each line is done on the core as the lines before have left it.
+--     line_moves start s line, line_answer start s line      the steps of a line's pass, and what the line is answered
+--     line_fault s line      why the line can't be done
+--     play_lines core lines      the answers of the lines and the core after them, or the first fault
+--     play_text script      the text that a script gives, or its fault
+use Rattle.std.specs.Prelude.{◌≡◌, ℕ, zero, suc, ◌*◌, Bool, true, false, List, [], ◌∷◌, Option, Some, None, Result, Ok, Err, if◌then◌else◌}
+use Rattle.std.specs.List.{range_with_len, find}
+use Rattle.fn_model.specs.declared.Kind.TheVariants.{Add, Sub, Read}
+use Rattle.fn_core.specs.declared.Start.{Start}
+use Rattle.fn_core.specs.declared.Position.{Position}
+use Rattle.fn_core.specs.declared.Position.TheVariants.{Resting}
+use Rattle.fn_core.specs.declared.Move.{Move}
+use Rattle.fn_core.specs.declared.answer.CoreBegun.{CoreBegun}
+use Rattle.fn_core.specs.declared.answer.CoreBegun.TheVariants.{Waiting}
+use Rattle.fn_core.specs.declared.answer.CoreBegun.TheVariants as begun_as
+use Rattle.fn_core.specs.declared.answer.CoreStep.{CoreStep}
+use Rattle.fn_core.specs.declared.answer.CoreStep.TheVariants.{Ready}
+use Rattle.fn_core.specs.declared.answer.CoreStep.TheVariants as step_as
+use Rattle.fn_core.specs.State.{State}
+use Rattle.fn_core.specs.Machine.{no_cap, moves}
+use Rattle.fn_core.specs.Order.{next_move}
+use Rattle.fn_core.specs.Bound.{steps_left}
+use Rattle.fn_core.specs.Begin.{begin_moves, begun}
+use Rattle.fn_core.specs.Calls.{CoreLog, state_in, with_moves, newly_opened, step_answer, own_moves}
+use Rattle.trace_text.specs.Sound.{allowances}
+use Rattle.trace_text.specs.declared.scripts.Order.{Order}
+use Rattle.trace_text.specs.declared.scripts.Order.TheVariants as order
+use Rattle.trace_text.specs.declared.scripts.Script.{Script}
+use Rattle.trace_text.specs.declared.scripts.ScriptLine.{ScriptLine}
+use Rattle.funnel_tool.specs.declared.lines.LineAnswer.{LineAnswer}
+use Rattle.funnel_tool.specs.declared.lines.LineAnswer.TheVariants.{Waits, NoRow, Going, Reply, NotYet, Met}
+use Rattle.funnel_tool.specs.declared.play.PlayFault.{PlayFault}
+use Rattle.funnel_tool.specs.declared.play.PlayFault.TheVariants.{Busy, NothingPending, Unfinished}
+use Rattle.funnel_tool.specs.Lines.{answers_text}
+
+-- whether a step leaves its call going
+abbrev pub is_going : CoreStep → Bool
+is_going step_as.Going = true
+is_going _ = false
+
+-- one step more than the pass's call has left, so more than a poll takes before it is answered
+abbrev pub most_steps : Start → State → ℕ → ℕ
+most_steps start s pass = suc (steps_left start s pass (start.shape.passes * start.shape.rows))
+
+-- the steps of a poll: those of the call up to the first that doesn't leave it going
+abbrev pub poll_moves : ℕ → Start → State → ℕ → List Move
+poll_moves zero start s pass = []
+poll_moves (suc most) start s pass =
+    let move = next_move start s pass in
+    move ∷ (if is_going (step_answer start s pass) then poll_moves most start (moves start s pass move) pass else [])
+
+-- what the last of them tells
+abbrev pub poll_answer : ℕ → Start → State → ℕ → CoreStep
+poll_answer zero start s pass = step_as.Going
+poll_answer (suc most) start s pass =
+    let told = step_answer start s pass in
+    if is_going told then poll_answer most start (moves start s pass (next_move start s pass)) pass else told
+
+-- the steps of an order to a pass; a meeting has none
+abbrev pub order_moves : Start → State → ℕ → Order → List Move
+order_moves start s pass (order.Add n) = begin_moves start s pass Add n
+order_moves start s pass (order.Sub n) = begin_moves start s pass Sub n
+order_moves start s pass (order.Direct n) = own_moves start.cap Add n
+order_moves start s pass (order.SubDirect n) = own_moves start.cap Sub n
+order_moves start s pass order.Read = own_moves start.cap Read 0
+order_moves start s pass order.Step = next_move start s pass ∷ []
+order_moves start s pass order.Poll = poll_moves (most_steps start s pass) start s pass
+order_moves start s pass (order.Meet q) = []
+
+-- what a beginning is answered
+abbrev pub begun_answer : CoreBegun → LineAnswer
+begun_answer Waiting = Waits
+begun_answer (begun_as.NoRow blocked) = NoRow blocked
+
+-- what a step is answered
+abbrev pub told_answer : CoreStep → LineAnswer
+told_answer step_as.Going = Going
+told_answer (Ready n) = Reply n
+told_answer (step_as.NotYet why) = NotYet why
+
+-- what an order is answered: a call that goes to the main word by itself meets that word
+abbrev pub order_answer : Start → State → ℕ → Order → LineAnswer
+order_answer start s pass (order.Add n) = begun_answer (begun start s pass Add)
+order_answer start s pass (order.Sub n) = begun_answer (begun start s pass Sub)
+order_answer start s pass (order.Direct n) = Reply s.main
+order_answer start s pass (order.SubDirect n) = Reply s.main
+order_answer start s pass order.Read = Reply s.main
+order_answer start s pass order.Step = told_answer (step_answer start s pass)
+order_answer start s pass order.Poll = told_answer (poll_answer (most_steps start s pass) start s pass)
+order_answer start s pass (order.Meet q) = Met
+
+-- whether a pass in this position makes no call
+abbrev pub is_resting : Position → Bool
+is_resting Resting = true
+is_resting _ = false
+
+abbrev pub rests : State → ℕ → Bool
+rests s pass = is_resting (s.callers pass).position
+
+-- a pass of the line that is in mid-call
+abbrev pub busy : State → ℕ → ℕ → Option PlayFault
+busy s at pass = if rests s pass then None else Some (Busy at pass)
+
+-- a pass of the line that makes no call
+abbrev pub idle : State → ℕ → ℕ → Option PlayFault
+idle s at pass = if rests s pass then Some (NothingPending at pass) else None
+
+-- why an order can't be done now: a step and a poll want a call, and all others none
+abbrev pub order_fault : State → ℕ → ℕ → Order → Option PlayFault
+order_fault s at pass order.Step = idle s at pass
+order_fault s at pass order.Poll = idle s at pass
+order_fault s at pass (order.Meet q) = if rests s pass then busy s at q else Some (Busy at pass)
+order_fault s at pass _ = busy s at pass
+
+-- the least pass in mid-call
+abbrev pub unfinished : CoreLog → Option ℕ
+unfinished core = find (λ pass. if rests (state_in core) pass then false else true) (range_with_len 0 core.start.shape.passes)
+
+-- the end of a script, at which each pass has to rest
+abbrev pub finish : CoreLog → Option ℕ → Result (List LineAnswer × ℕ) PlayFault
+finish core None = Ok ([], (state_in core).main)
+finish core (Some pass) = Err (Unfinished pass)
+
+-- an answer before those of further lines
+abbrev pub answered : LineAnswer → Result (List LineAnswer × ℕ) PlayFault → Result (List LineAnswer × ℕ) PlayFault
+answered answer (Ok more) = Ok (answer ∷ more.0, more.1)
+answered answer (Err fault) = Err fault
+
+-- the core after a line
+abbrev pub after_line : CoreLog → ScriptLine → CoreLog
+after_line core line = with_moves core line.pass (order_moves core.start (state_in core) line.pass line.order)
+
+-- the answers of the lines and the value after them, or the first fault
+abbrev pub play_lines : CoreLog → List ScriptLine → Result (List LineAnswer × ℕ) PlayFault
+play_lines core [] = finish core (unfinished core)
+play_lines core (line ∷ rest) = play_line core line (order_fault (state_in core) line.at line.pass line.order) (play_lines (after_line core line) rest)
+  where
+    play_line : CoreLog → ScriptLine → Option PlayFault → Result (List LineAnswer × ℕ) PlayFault → Result (List LineAnswer × ℕ) PlayFault
+    play_line core line (Some fault) more = Err fault
+    play_line core line None more = answered (order_answer core.start (state_in core) line.pass line.order) more
+
+-- the core of a script at its opening, at which no addition stops
+abbrev pub opened_core : Script → CoreLog
+opened_core script = newly_opened script.shape script.opening no_cap (allowances script.lines script.shape.passes)
+
+-- the text of what a run gives
+abbrev pub run_text : Result (List LineAnswer × ℕ) PlayFault → Result (List ℕ) PlayFault
+run_text (Ok run) = Ok (answers_text run.0 run.1)
+run_text (Err fault) = Err fault
+
+-- the text that a script gives, or its fault
+abbrev pub play_text : Script → Result (List ℕ) PlayFault
+play_text script = run_text (play_lines (opened_core script) script.lines)
