@@ -9,16 +9,19 @@ struct Row {
     input: &'static str,
     /// how many newlines follow the input
     newlines: usize,
+    /// what follows them
+    after: &'static str,
     stdout: &'static str,
     stderr: &'static str,
     status: u8,
 }
 
-static ROWS: [Row; 55] = [
+static ROWS: [Row; 60] = [
     // a member polls before its delegate
     Row {
         input: "funnel 3 1 1 2 10\n0 add 5\n1 add 7\n2 add 1\n1 poll\n0 poll\n1 poll\n2 poll\n",
         newlines: 0,
+        after: "",
         stdout: "waits\nwaits\nwaits\nnotyet behind 0 5\nreply 10\nreply 15\nreply 22\nvalue 23\n",
         stderr: "",
         status: 0,
@@ -27,6 +30,7 @@ static ROWS: [Row; 55] = [
     Row {
         input: "funnel 2 1 1 2 10\n0 add 5\n0 step\n0 step\n1 add 7\n0 poll\n1 poll\n",
         newlines: 0,
+        after: "",
         stdout: "waits\ngoing\ngoing\nwaits\nreply 10\nreply 15\nvalue 22\n",
         stderr: "",
         status: 0,
@@ -35,6 +39,7 @@ static ROWS: [Row; 55] = [
     Row {
         input: "funnel 2 1 1 2 6\n0 sub 4\n1 sub 4\n0 poll\n1 poll\n",
         newlines: 0,
+        after: "",
         stdout: "waits\nwaits\nreply 6\nreply 2\nvalue 0\n",
         stderr: "",
         status: 0,
@@ -43,6 +48,7 @@ static ROWS: [Row; 55] = [
     Row {
         input: "funnel 2 1 1 2 10\n0 add 5\n0 step\n0 step\n1 direct 100\n0 poll\n",
         newlines: 0,
+        after: "",
         stdout: "waits\ngoing\ngoing\nreply 10\nreply 110\nvalue 115\n",
         stderr: "",
         status: 0,
@@ -51,6 +57,7 @@ static ROWS: [Row; 55] = [
     Row {
         input: "funnel 2 1 1 2 6\n0 sub 4\n0 step\n0 step\n0 step\n1 direct 1\n0 step\n0 poll\n",
         newlines: 0,
+        after: "",
         stdout: "waits\ngoing\ngoing\ngoing\nreply 6\nnotyet lost 6 7\nreply 7\nvalue 3\n",
         stderr: "",
         status: 0,
@@ -59,6 +66,7 @@ static ROWS: [Row; 55] = [
     Row {
         input: "funnel 1 1 1 1 9223372036854775806\n0 add 1\n0 poll\n",
         newlines: 0,
+        after: "",
         stdout: "waits\nreply 9223372036854775806\nvalue 9223372036854775807\n",
         stderr: "",
         status: 0,
@@ -67,6 +75,7 @@ static ROWS: [Row; 55] = [
     Row {
         input: "funnel 1 1 1 1 9223372036854775807\n0 add 1\n0 poll\n",
         newlines: 0,
+        after: "",
         stdout: "",
         stderr: "refused: total at 2\n",
         status: 3,
@@ -75,6 +84,7 @@ static ROWS: [Row; 55] = [
     Row {
         input: "",
         newlines: 0,
+        after: "",
         stdout: "",
         stderr: "refused: header at 1\n",
         status: 3,
@@ -83,6 +93,7 @@ static ROWS: [Row; 55] = [
     Row {
         input: "funnel 1 1 1 1 0\n0 poll\n",
         newlines: 0,
+        after: "",
         stdout: "",
         stderr: "refused: nothing pending at 2 pass 0\n",
         status: 3,
@@ -91,6 +102,7 @@ static ROWS: [Row; 55] = [
     Row {
         input: "funnel 1 1 1 1 0\n0 add 1\n",
         newlines: 0,
+        after: "",
         stdout: "",
         stderr: "refused: unfinished pass 0\n",
         status: 3,
@@ -99,6 +111,7 @@ static ROWS: [Row; 55] = [
     Row {
         input: "funnel 1 1 1 1 0\n0 add 1\n0 add 1\n0 poll\n",
         newlines: 0,
+        after: "",
         stdout: "",
         stderr: "refused: busy at 3 pass 0\n",
         status: 3,
@@ -107,6 +120,7 @@ static ROWS: [Row; 55] = [
     Row {
         input: "funnel 2 1 1 1 0\n0 add 5\n1 read\n0 poll\n1 read\n",
         newlines: 0,
+        after: "",
         stdout: "waits\nreply 0\nreply 0\nreply 5\nvalue 5\n",
         stderr: "",
         status: 0,
@@ -115,6 +129,7 @@ static ROWS: [Row; 55] = [
     Row {
         input: "funnel 2 1 1 2 0\n0 add 1\n1 add 1\n0 poll\n0 add 1\n0 poll\n0 add 1\n1 poll\n0 add 1\n0 poll\n",
         newlines: 0,
+        after: "",
         stdout: "waits\nwaits\nreply 0\nwaits\nreply 2\nnorow 1 1 1 0\nreply 1\nwaits\nreply 3\nvalue 4\n",
         stderr: "",
         status: 0,
@@ -123,6 +138,7 @@ static ROWS: [Row; 55] = [
     Row {
         input: "funnel 4 2 2 2 100\n0 add 1\n2 add 2\n1 add 4\n3 add 8\n0 step\n0 step\n0 step\n0 step\n0 step\n1 step\n1 step\n1 step\n1 step\n1 step\n0 poll\n1 poll\n2 poll\n3 poll\n",
         newlines: 0,
+        after: "",
         stdout: "waits\nwaits\nwaits\nwaits\ngoing\ngoing\ngoing\ngoing\ngoing\ngoing\ngoing\ngoing\ngoing\ngoing\nreply 100\nreply 103\nreply 101\nreply 107\nvalue 115\n",
         stderr: "",
         status: 0,
@@ -131,6 +147,7 @@ static ROWS: [Row; 55] = [
     Row {
         input: "funnel 2 1 1 1 0\n0 add 3\n0 poll\n1 meet 0\n1 read\n",
         newlines: 0,
+        after: "",
         stdout: "waits\nreply 0\nmet\nreply 3\nvalue 3\n",
         stderr: "",
         status: 0,
@@ -139,6 +156,7 @@ static ROWS: [Row; 55] = [
     Row {
         input: "funnel 1 1 1 1 3\n0 subdirect 5\n0 read\n",
         newlines: 0,
+        after: "",
         stdout: "reply 3\nreply 0\nvalue 0\n",
         stderr: "",
         status: 0,
@@ -147,6 +165,7 @@ static ROWS: [Row; 55] = [
     Row {
         input: "funnel 65 1 1 1 0\n",
         newlines: 0,
+        after: "",
         stdout: "",
         stderr: "refused: shape passes 65\n",
         status: 3,
@@ -155,6 +174,7 @@ static ROWS: [Row; 55] = [
     Row {
         input: "funnel 2 3 1 1 0\n",
         newlines: 0,
+        after: "",
         stdout: "",
         stderr: "refused: shape leaves 3\n",
         status: 3,
@@ -163,6 +183,7 @@ static ROWS: [Row; 55] = [
     Row {
         input: "funnel 1 1 4 1 0\n",
         newlines: 0,
+        after: "",
         stdout: "",
         stderr: "refused: shape levels 4\n",
         status: 3,
@@ -171,6 +192,7 @@ static ROWS: [Row; 55] = [
     Row {
         input: "funnel 1 1 1 9 0\n",
         newlines: 0,
+        after: "",
         stdout: "",
         stderr: "refused: shape rows 9\n",
         status: 3,
@@ -179,6 +201,7 @@ static ROWS: [Row; 55] = [
     Row {
         input: "",
         newlines: 33554433,
+        after: "",
         stdout: "",
         stderr: "refused: too long\n",
         status: 3,
@@ -187,6 +210,7 @@ static ROWS: [Row; 55] = [
     Row {
         input: "",
         newlines: 65537,
+        after: "",
         stdout: "",
         stderr: "refused: header at 1\n",
         status: 3,
@@ -195,6 +219,7 @@ static ROWS: [Row; 55] = [
     Row {
         input: "funnel 1 1 1 1 0\n",
         newlines: 65536,
+        after: "",
         stdout: "",
         stderr: "refused: too many at 65537\n",
         status: 3,
@@ -203,6 +228,7 @@ static ROWS: [Row; 55] = [
     Row {
         input: "funnel 2 1 1 2 0\n0 add 1\n1 add 1\n0 poll\n0 add 1\n0 poll\n0 add 1\n1 poll\n",
         newlines: 0,
+        after: "",
         stdout: "waits\nwaits\nreply 0\nwaits\nreply 2\nnorow 1 1 1 0\nreply 1\nvalue 3\n",
         stderr: "",
         status: 0,
@@ -211,6 +237,7 @@ static ROWS: [Row; 55] = [
     Row {
         input: "funnel 64 32 1 8 0\n",
         newlines: 0,
+        after: "",
         stdout: "value 0\n",
         stderr: "",
         status: 0,
@@ -219,6 +246,7 @@ static ROWS: [Row; 55] = [
     Row {
         input: "funnel 2 1 1 1 0\n0 add 1\n0 meet 1\n0 poll\n",
         newlines: 0,
+        after: "",
         stdout: "",
         stderr: "refused: busy at 3 pass 0\n",
         status: 3,
@@ -227,6 +255,7 @@ static ROWS: [Row; 55] = [
     Row {
         input: "funnel 2 1 1 1 0\n0 add 1\n1 meet 0\n0 poll\n",
         newlines: 0,
+        after: "",
         stdout: "",
         stderr: "refused: busy at 3 pass 0\n",
         status: 3,
@@ -235,6 +264,7 @@ static ROWS: [Row; 55] = [
     Row {
         input: "funnel 1 1 1 1 4\n0 meet 0\n",
         newlines: 0,
+        after: "",
         stdout: "met\nvalue 4\n",
         stderr: "",
         status: 0,
@@ -243,6 +273,7 @@ static ROWS: [Row; 55] = [
     Row {
         input: "funnel 2 1 1 2 5\n0 sub 9\n0 add 4\n0 poll\n",
         newlines: 0,
+        after: "",
         stdout: "",
         stderr: "refused: busy at 3 pass 0\n",
         status: 3,
@@ -251,6 +282,7 @@ static ROWS: [Row; 55] = [
     Row {
         input: "funnel 2 1 1 2 5\n0 sub 9\n1 add 4\n1 poll\n0 poll\n",
         newlines: 0,
+        after: "",
         stdout: "waits\nwaits\nreply 5\nreply 9\nvalue 0\n",
         stderr: "",
         status: 0,
@@ -259,6 +291,7 @@ static ROWS: [Row; 55] = [
     Row {
         input: "funnel 1 1 1 1 0\n0 add 1\n0 poll\n0 add 1\n0 poll\n",
         newlines: 0,
+        after: "",
         stdout: "waits\nreply 0\nwaits\nreply 1\nvalue 2\n",
         stderr: "",
         status: 0,
@@ -267,6 +300,7 @@ static ROWS: [Row; 55] = [
     Row {
         input: "funnel 2 1 1 1 0\n0 add 1\n0 poll\n1 add 1\n0 add 1\n0 poll\n1 poll\n0 poll\n",
         newlines: 0,
+        after: "",
         stdout: "waits\nreply 0\nwaits\nwaits\nnotyet behind 1 2\nreply 1\nreply 2\nvalue 3\n",
         stderr: "",
         status: 0,
@@ -275,6 +309,7 @@ static ROWS: [Row; 55] = [
     Row {
         input: "funnel 4 2 2 2 5\n0 sub 1\n2 sub 2\n1 sub 4\n3 sub 8\n0 step\n0 step\n0 step\n0 step\n0 step\n1 step\n1 step\n1 step\n1 step\n1 step\n0 poll\n1 poll\n2 poll\n3 poll\n",
         newlines: 0,
+        after: "",
         stdout: "waits\nwaits\nwaits\nwaits\ngoing\ngoing\ngoing\ngoing\ngoing\ngoing\ngoing\ngoing\ngoing\ngoing\nreply 5\nreply 2\nreply 4\nreply 0\nvalue 0\n",
         stderr: "",
         status: 0,
@@ -283,6 +318,7 @@ static ROWS: [Row; 55] = [
     Row {
         input: "funnel 3 3 3 1 7\n2 add 5\n2 poll\n",
         newlines: 0,
+        after: "",
         stdout: "waits\nreply 7\nvalue 12\n",
         stderr: "",
         status: 0,
@@ -291,6 +327,7 @@ static ROWS: [Row; 55] = [
     Row {
         input: "funnel 64 32 3 8 0\n",
         newlines: 0,
+        after: "",
         stdout: "value 0\n",
         stderr: "",
         status: 0,
@@ -299,6 +336,7 @@ static ROWS: [Row; 55] = [
     Row {
         input: "funnel 2 1 1 1 0\n5 sub x\n",
         newlines: 0,
+        after: "",
         stdout: "",
         stderr: "refused: pass at 2\n",
         status: 3,
@@ -307,6 +345,7 @@ static ROWS: [Row; 55] = [
     Row {
         input: "funnel 2 1 1 1 0\n5 jump\n",
         newlines: 0,
+        after: "",
         stdout: "",
         stderr: "refused: pass at 2\n",
         status: 3,
@@ -315,6 +354,7 @@ static ROWS: [Row; 55] = [
     Row {
         input: "funnel 2 1 1 1 0\n0 jump x y\n",
         newlines: 0,
+        after: "",
         stdout: "",
         stderr: "refused: op at 2\n",
         status: 3,
@@ -323,6 +363,7 @@ static ROWS: [Row; 55] = [
     Row {
         input: "funnel 2 1 1 1 0\n0 add\n",
         newlines: 0,
+        after: "",
         stdout: "",
         stderr: "refused: fields at 2\n",
         status: 3,
@@ -331,6 +372,7 @@ static ROWS: [Row; 55] = [
     Row {
         input: "funnel 2 1 1 1 0\n2 step x\n",
         newlines: 0,
+        after: "",
         stdout: "",
         stderr: "refused: fields at 2\n",
         status: 3,
@@ -339,6 +381,7 @@ static ROWS: [Row; 55] = [
     Row {
         input: "funnel 2 1 1 1 0\n0 add 0\n",
         newlines: 0,
+        after: "",
         stdout: "",
         stderr: "refused: amount at 2\n",
         status: 3,
@@ -347,6 +390,7 @@ static ROWS: [Row; 55] = [
     Row {
         input: "funnel 2 1 1 1 0\n0 meet 2\n",
         newlines: 0,
+        after: "",
         stdout: "",
         stderr: "refused: pass at 2\n",
         status: 3,
@@ -355,6 +399,7 @@ static ROWS: [Row; 55] = [
     Row {
         input: "funnel 2 1 1 1\n",
         newlines: 0,
+        after: "",
         stdout: "",
         stderr: "refused: header at 1\n",
         status: 3,
@@ -363,6 +408,7 @@ static ROWS: [Row; 55] = [
     Row {
         input: "\n\nfunnel 1 1 1 1 0\n0 add x\n",
         newlines: 0,
+        after: "",
         stdout: "",
         stderr: "refused: amount at 4\n",
         status: 3,
@@ -371,6 +417,7 @@ static ROWS: [Row; 55] = [
     Row {
         input: "funnel 1 1 1 1 9223372036854775807\n0 add 1\n0 jump\n",
         newlines: 0,
+        after: "",
         stdout: "",
         stderr: "refused: total at 2\n",
         status: 3,
@@ -379,6 +426,7 @@ static ROWS: [Row; 55] = [
     Row {
         input: "funnel 2 1 1 1 0\n0 add 1\n0 step\n1 add 2\n1 poll\n1 poll\n0 poll\n1 poll\n",
         newlines: 0,
+        after: "",
         stdout: "waits\ngoing\nwaits\nnotyet behind 0 1\nnotyet behind 0 1\nreply 0\nreply 1\nvalue 3\n",
         stderr: "",
         status: 0,
@@ -387,6 +435,7 @@ static ROWS: [Row; 55] = [
     Row {
         input: "funnel 2 1 1 1 0\n1 add 1\n1 step\n1 step\n0 add 3\n1 step\n1 step\n0 step\n1 poll\n0 poll\n",
         newlines: 0,
+        after: "",
         stdout: "waits\ngoing\ngoing\nwaits\ngoing\ngoing\nnotyet behind 0 1\nreply 0\nreply 1\nvalue 4\n",
         stderr: "",
         status: 0,
@@ -395,6 +444,7 @@ static ROWS: [Row; 55] = [
     Row {
         input: "funnel 3 2 1 2 0\n0 add 1\n2 add 2\n0 poll\n1 add 10\n1 poll\n0 add 1\n0 poll\n2 poll\n",
         newlines: 0,
+        after: "",
         stdout: "waits\nwaits\nreply 0\nwaits\nreply 3\nwaits\nreply 13\nreply 1\nvalue 14\n",
         stderr: "",
         status: 0,
@@ -403,6 +453,7 @@ static ROWS: [Row; 55] = [
     Row {
         input: "funnel 2 1 1 2 0\n0 add 1\n1 add 2\n0 poll\n0 direct 5\n0 add 1\n0 poll\n1 poll\n",
         newlines: 0,
+        after: "",
         stdout: "waits\nwaits\nreply 0\nreply 3\nwaits\nreply 8\nreply 1\nvalue 9\n",
         stderr: "",
         status: 0,
@@ -411,6 +462,7 @@ static ROWS: [Row; 55] = [
     Row {
         input: "funnel 3 1 1 1 0\n0 add 1\n2 add 2\n0 poll\n0 add 1\n2 poll\n",
         newlines: 0,
+        after: "",
         stdout: "waits\nwaits\nreply 0\nnorow 1 0 2 0\nreply 1\nvalue 3\n",
         stderr: "",
         status: 0,
@@ -419,6 +471,7 @@ static ROWS: [Row; 55] = [
     Row {
         input: "funnel 2 1 1 1 0\n0 add 1\n1 add 2\n0 poll\n1 step\n1 step\n1 step\n1 step\n0 add 1\n1 step\n0 add 1\n0 poll\n",
         newlines: 0,
+        after: "",
         stdout: "waits\nwaits\nreply 0\ngoing\ngoing\ngoing\ngoing\nnorow 1 0 1 0\nreply 1\nwaits\nreply 3\nvalue 4\n",
         stderr: "",
         status: 0,
@@ -427,6 +480,7 @@ static ROWS: [Row; 55] = [
     Row {
         input: "funnel 2 2 2 1 0\n0 add 1\n1 add 2\n0 step\n0 step\n0 step\n0 step\n0 step\n1 step\n1 step\n1 step\n1 step\n0 poll\n0 add 1\n1 poll\n",
         newlines: 0,
+        after: "",
         stdout: "waits\nwaits\ngoing\ngoing\ngoing\ngoing\ngoing\ngoing\ngoing\ngoing\ngoing\nreply 0\nnorow 2 0 1 0\nreply 1\nvalue 3\n",
         stderr: "",
         status: 0,
@@ -435,6 +489,7 @@ static ROWS: [Row; 55] = [
     Row {
         input: "funnel 3 1 1 2 6\n0 sub 4\n1 sub 4\n2 sub 4\n0 poll\n1 poll\n2 poll\n",
         newlines: 0,
+        after: "",
         stdout: "waits\nwaits\nwaits\nreply 6\nreply 2\nreply 0\nvalue 0\n",
         stderr: "",
         status: 0,
@@ -443,6 +498,7 @@ static ROWS: [Row; 55] = [
     Row {
         input: "funnel 2 1 1 1 0\n0 add 1\n0 step\n0 step\n1 add 1\n0 poll\n0 add 1\n1 poll\n",
         newlines: 0,
+        after: "",
         stdout: "waits\ngoing\ngoing\nwaits\nreply 0\nnorow 1 0 1 0\nreply 1\nvalue 2\n",
         stderr: "",
         status: 0,
@@ -451,7 +507,53 @@ static ROWS: [Row; 55] = [
     Row {
         input: "funnel 2 1 1 1 0\n0 add 1\n0 poll\n0 add 1\n1 add 1\n0 poll\n1 poll\n",
         newlines: 0,
+        after: "",
         stdout: "waits\nreply 0\nwaits\nwaits\nreply 1\nreply 2\nvalue 3\n",
+        stderr: "",
+        status: 0,
+    },
+    // a carriage return before a newline is dropped
+    Row {
+        input: "funnel 1 1 1 1 0\r\n0 read\r\n",
+        newlines: 0,
+        after: "",
+        stdout: "reply 0\nvalue 0\n",
+        stderr: "",
+        status: 0,
+    },
+    // a carriage return at the end of a last line without a newline stays
+    Row {
+        input: "funnel 1 1 1 1 0\r",
+        newlines: 0,
+        after: "",
+        stdout: "",
+        stderr: "refused: header at 1\n",
+        status: 3,
+    },
+    // a line past the limit is refused by its own lesser fault
+    Row {
+        input: "funnel 1 1 1 1 0\n",
+        newlines: 65_535,
+        after: "0 jump",
+        stdout: "",
+        stderr: "refused: op at 65537\n",
+        status: 3,
+    },
+    // words that come only past the limit
+    Row {
+        input: "",
+        newlines: 65_537,
+        after: "funnel 1 1 1 1 0\n",
+        stdout: "",
+        stderr: "refused: too many at 65537\n",
+        status: 3,
+    },
+    // spaces at either end and between words, and leading zeros
+    Row {
+        input: "  funnel  2 01 1 1 007 \n\n 1   add 03\n1 poll  \n",
+        newlines: 0,
+        after: "",
+        stdout: "waits\nreply 7\nvalue 10\n",
         stderr: "",
         status: 0,
     },
@@ -473,6 +575,7 @@ fn input_of(rt: &HostRuntime, row: Row) -> Result<Vec<u8>, Fail> {
     let mut input = Vec::from_slice(rt.alloc(), row.input.as_bytes())?;
     let newlines = vec![in rt.alloc(); b'\n'; row.newlines]?;
     input.extend_from_slice(&newlines)?;
+    input.extend_from_slice(row.after.as_bytes())?;
     Ok(input)
 }
 
