@@ -76,4 +76,20 @@ mod tests {
             assert_eq!(rt; shape.aggregator_of(4, 3), 1);
         }
     }
+
+    #[test]
+    fn accessors_and_members(rt: HostRuntime) {
+        if let Ok(shape) = Shape::new(7, 5, 3, 1) {
+            assert_eq!(rt; shape.passes(), 7);
+            assert_eq!(rt; shape.leaves(), 5);
+            assert_eq!(rt; shape.levels(), 3);
+            assert_eq!(rt; shape.rows(), 1);
+            assert_eq!(rt; shape.main_word(), 0);
+            assert_eq!(rt; shape.members(1, 1), 2);
+            assert_eq!(rt; shape.members(2, 0), 4);
+            assert_eq!(rt; shape.member(6, 1), 1);
+            assert_eq!(rt; shape.pass_of(1, 1, 1), 6);
+            assert_eq!(rt; shape.pass_of(2, 0, 2), 5);
+        }
+    }
 }
