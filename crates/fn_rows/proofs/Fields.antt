@@ -84,9 +84,6 @@ module _ (old a : Aggregator) (is : old ≡ a) (reached : IsReached old) (step :
   same_members : a.members ≡ old.members
   same_members = ap (λ (x : Aggregator). x.members) (sym is)
 
-  same_rows : a.rows ≡ old.rows
-  same_rows = ap (λ (x : Aggregator). x.rows) (sym is)
-
   -- a member goes on to another stage
   module _ (m : ℕ) (range : m < a.members) (g : Stage) where
     in_stage : m < length old.stage

@@ -38,9 +38,6 @@ module _ (members : ℕ) where
   pub place_below : (m q : ℕ) → m < members → q < members → m * members + q < members * members
   place_below m q lt lt' = let more : (m + 1) * members ≤ members * members = mul-le-mul_right members (omega (arith, lt)) in omega (arith, more, lt')
 
-  pub end_below : (m : ℕ) → m < members → m * members + members ≤ members * members
-  end_below m lt = let more : (m + 1) * members ≤ members * members = mul-le-mul_right members (omega (arith, lt)) in omega (arith, more)
-
   -- two members' places are apart
   apart : (m m' q q' : ℕ) → m' ≢ m → q < members → q' < members → m' * members + q' ≢ m * members + q
   apart m m' q q' other lt lt' same = elim (cases_lt m m') [

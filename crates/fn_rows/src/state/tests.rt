@@ -127,6 +127,15 @@ fn row_now(state: &RowState, member: u32, row: u32) -> Option<(bool, u64)> {
     Some((state.is_free(member, row), state.end(row)))
 }
 
+// What the member has announced, and whether that lets a row with this end be filled again.
+fn announcement(state: &RowState, member: u32, end: u64) -> Option<(u64, bool)> {
+    if member >= state.members {
+        return None;
+    }
+    let word = state.announced(member);
+    Some((word, lets(word, end)))
+}
+
 #[test]
 fn a_late_member_walks_over_two_batches(rt: HostRuntime) -> Result<(), Fail> {
     let mut state = RowState::new(rt.alloc(), 3, 1)?;
@@ -160,12 +169,15 @@ fn a_row_is_filled_again_after_a_scan(rt: HostRuntime) -> Result<(), Fail> {
     assert_eq!(rt; advance(&mut state, 0, 1), Some(0));
 
     // Member 1 has announced 0, and may arrive below the row's end.
+    assert_eq!(rt; announcement(&state, 1, 5), Some((1, false)));
+    assert_eq!(rt; announcement(&state, 1, 0), Some((1, true)));
     assert_eq!(rt; scan(&mut state, 0, 1), Some(1));
     assert_eq!(rt; row_now(&state, 0, 0), Some((false, 5)));
     assert_eq!(rt; advance(&mut state, 1, 4), Some(5));
     assert_eq!(rt; lead(&mut state, 1, 1, 200), Some(9));
     assert_eq!(rt; advance_row(&mut state, 1, 1), Some(9));
     assert_eq!(rt; advance(&mut state, 1, 1), Some(0));
+    assert_eq!(rt; announcement(&state, 1, 5), Some((0, true)));
     assert_eq!(rt; scan(&mut state, 0, 1), Some(0));
     assert_eq!(rt; row_now(&state, 0, 0), Some((true, 5)));
     assert_eq!(rt; join(&mut state, 0, 2), Some(9));
