@@ -1,7 +1,7 @@
 -- A funnel in code after its steps, and what a call by itself leaves.
-use Rattle.std.proofs.Common.{◌≡◌, ◌⊎◌, inl, inr, ℕ, suc, ◌<◌, ◌≤◌, List, [], ◌∷◌, ◌++◌, Bool, true, false, refl, sym, ◌∙◌, ap, subst}
+use Rattle.std.proofs.Common.{◌≡◌, ◌⊎◌, inl, inr, ℕ, ◌<◌, ◌≤◌, List, [], ◌∷◌, ◌++◌, Bool, true, false, refl, sym, ◌∙◌, ap, subst}
 use Rattle.std.specs.Prelude.{if◌then◌else◌, ◌==◌, Result, Ok, Err, IfOk}
-use Rattle.std.proofs.lemmas.Bool.{false≢true, eq-eqb, eqb-true, eqb-false}
+use Rattle.std.proofs.lemmas.Bool.{false≢true, eq-eqb, eqb-true}
 use Rattle.fn_model.specs.declared.Call.{Call}
 use Rattle.fn_model.specs.declared.Kind.{Kind}
 use Rattle.fn_model.specs.declared.Kind.TheVariants.{Add, Sub, Read}
@@ -15,7 +15,7 @@ use Rattle.fn_core.specs.declared.answer.Answer.{Answer}
 use Rattle.fn_core.specs.declared.answer.NoMemory.{NoMemory}
 use Rattle.fn_core.specs.declared.machine.Machine.{Machine}
 use Rattle.fn_core.specs.State.{Start, Position, Resting, Trying, Climbing, Deciding, Caller, State, opened, stage, history_in, after_call, next_call, goes_to}
-use Rattle.fn_core.specs.Machine.{IsStart, IsChange, MaySpend, May, Allowed, Legal, run, moves, makes, loaded_by, exchanged_by, no_cap}
+use Rattle.fn_core.specs.Machine.{IsChange, MaySpend, Allowed, run, moves, makes, loaded_by, exchanged_by, no_cap}
 use Rattle.fn_core.specs.Batches.{has_come}
 use Rattle.fn_core.specs.Positions.{IsClimbing, Fits}
 use Rattle.fn_core.specs.Fields.{Stands, Mirrors, Takes}
@@ -23,22 +23,12 @@ use Rattle.fn_core.specs.Fields as fields
 use Rattle.fn_core.specs.Laws.{HasReply, MeetsMain}
 use Rattle.fn_core.specs.Calls.{CoreLog, state_in, calls_in, IsLegal, HasCall, with_move, with_moves, IsIdle, MayOwn, own_moves, exchange_moves, OwnCallJoins}
 use Rattle.fn_core.proofs.Filling.{legal_push, run_push}
+use Rattle.fn_core.proofs.Pushed.{stands_next}
 use Rattle.fn_core.proofs.Laws.{holds, direct_replies_are_right}
 use Rattle.fn_core.proofs.Whole.{climbing}
 use Rattle.fn_core.proofs.Reached.{change_funnelled}
 use Rattle.fn_core.proofs.Grows.{positions_fit}
 use Rattle.fn_layout.specs.Words.{IsSlot}
-
--- the machine stands for its log and one more event
-pub stands_push : (old new : Machine) (log : List Event) (pass : ℕ) (step : Move) (answer : Answer) → Stands old log → fields.May old log pass step → new.start ≡ old.start → Takes old new pass step answer → Stands new (log ++ record { pass = pass; step = step } ∷ [])
-stands_push old new log pass step answer stands may same takes =
-    let event : Event = record { pass = pass; step = step } in
-    let taken = takes log stands may in
-    record {
-      start_ok = subst IsStart (sym same) stands.start_ok;
-      legal = subst (λ (start : Start). Legal start (log ++ event ∷ []) (opened start)) (sym same) (legal_push old.start log event (opened old.start) stands.legal may);
-      fields = subst (λ (start : Start). Mirrors new (run start (log ++ event ∷ []) (opened start))) (sym same) (subst (Mirrors new) (sym (run_push old.start log event (opened old.start))) taken.0);
-    }
 
 -- one more allowed event leaves a legal log
 pub legal_move : (core : CoreLog) → IsLegal core → (pass : ℕ) (step : Move) → Allowed core.start (state_in core) (record { pass = pass; step = step }) → IsLegal (with_move core pass step)
@@ -173,7 +163,7 @@ module _ (m next : Machine) (log : List Event) (stands : Stands m log) (pass : �
   before = record { start = m.start; log = log }
 
   pub load_stands : pass < m.start.shape.passes → IsIdle before pass → Stands next (log ++ record { pass = pass; step = Load purpose.Try } ∷ [])
-  load_stands inside idle = stands_push m next log pass (Load purpose.Try) answer stands (inside, inl idle) same takes
+  load_stands inside idle = stands_next m next log (record { pass = pass; step = Load purpose.Try }) answer stands (inside, inl idle) same takes
 
   pub exchange_may : pass < m.start.shape.passes → IsIdle before pass → (kind : Kind) (amount : ℕ) → IsChange kind → MaySpend (state_in before) pass amount → fields.May next (log ++ record { pass = pass; step = Load purpose.Try } ∷ []) pass (Exchange kind amount)
   exchange_may inside idle kind amount change spend =

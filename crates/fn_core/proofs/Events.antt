@@ -40,10 +40,6 @@ module _ (start : Start) where
   still s t main rows Root = main
   still s t main rows (At k j i l) = aside s t rows (At k j i l) (λ e. cc)
 
-  -- an aggregator of the shape
-  pub the_aggregator : (pass : ℕ) (kind : Kind) (level : ℕ) → IsFunnelled kind → IsLevel start.shape level → IsNamed start.shape (Value kind level (aggregator start.shape pass level))
-  the_aggregator pass kind level f l = (f, l, aggregator_below start.shape pass level)
-
   module _ (s : State) (pass : ℕ) (inside : pass < start.shape.passes) where
     placed : (kind : Kind) (level : ℕ) → IsPlaced start.shape (s.callers pass).position → (s.callers pass).position ≡ Climbing kind level → IsFunnelled kind × IsLevel start.shape level
     placed kind level ok e = subst (IsPlaced start.shape) e ok

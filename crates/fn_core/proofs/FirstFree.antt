@@ -12,6 +12,20 @@ use Rattle.fn_core.specs.Machine.{HasFreeRow, place}
 use Rattle.fn_core.specs.Laws.{FreeRowsAreFound}
 use Rattle.fn_core.specs.Order.{lets, all_below, first_below, is_free, first_free}
 
+-- two tests that agree up to the first number of which one holds have the same first number
+below_suc : (g : ℕ → Bool) → g 0 ≡ false → (k : ℕ) → ((j : ℕ) → j < k → g (suc j) ≡ false) → (j : ℕ) → j < suc k → g j ≡ false
+below_suc g first k before zero lt = first
+below_suc g first k before (suc j) lt = before j (omega arith)
+
+pub first_same : (f g : ℕ → Bool) (n : ℕ) → ((k : ℕ) → k < n → ((j : ℕ) → j < k → g j ≡ false) → f k ≡ g k) → first_below f n ≡ first_below g n
+unfolding first_below
+first_same f g zero agree = refl
+first_same f g (suc n) agree = by (g 0) refl (agree 0 (omega arith) (λ j lt. absurd (omega arith))) (λ first. first_same (λ k. f (suc k)) (λ k. g (suc k)) n (λ k lt before. agree (suc k) (omega arith) (below_suc g first k before)))
+  where
+    by : (b : Bool) → g 0 ≡ b → f 0 ≡ g 0 → (g 0 ≡ false → first_below (λ k. f (suc k)) n ≡ first_below (λ k. g (suc k)) n) → (if f 0 then 0 else suc (first_below (λ k. f (suc k)) n)) ≡ (if g 0 then 0 else suc (first_below (λ k. g (suc k)) n))
+    by true is same rest = ap (λ (b : Bool). if b then 0 else suc (first_below (λ k. f (suc k)) n)) (same ∙ is) ∙ sym (ap (λ (b : Bool). if b then 0 else suc (first_below (λ k. g (suc k)) n)) is)
+    by false is same rest = ap (λ (b : Bool). if b then 0 else suc (first_below (λ k. f (suc k)) n)) (same ∙ is) ∙ ap suc (rest is) ∙ sym (ap (λ (b : Bool). if b then 0 else suc (first_below (λ k. g (suc k)) n)) is)
+
 -- where a test holds of some number below n, it holds of the first
 pub first_holds : (test : ℕ → Bool) (n k : ℕ) → k < n → test k ≡ true → (first_below test n < n) × (test (first_below test n) ≡ true)
 unfolding first_below

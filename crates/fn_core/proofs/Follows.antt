@@ -1,33 +1,31 @@
 -- What holds after the next step of a pass's call.
-use Rattle.std.proofs.Common.{◌≡◌, ◌≢◌, inl, inr, ℕ, zero, suc, ◌<◌, List, [], ◌∷◌, ◌++◌, Bool, true, false, refl, sym, ◌∙◌, ap, subst, arith}
+use Rattle.std.proofs.Common.{◌≡◌, inl, inr, ℕ, zero, suc, ◌*◌, ◌<◌, List, [], ◌∷◌, ◌++◌, Bool, true, false, refl, sym, ◌∙◌, ap, subst}
 use Rattle.std.specs.Prelude.{if◌then◌else◌, ◌==◌, nat_lt}
-use Rattle.std.proofs.lemmas.Bool.{cases_eq, false≢true, eqb-true}
+use Rattle.std.proofs.lemmas.Bool.{false≢true, eqb-true}
 use Rattle.fn_model.specs.declared.Call.{Call}
 use Rattle.fn_model.specs.declared.Kind.{Kind}
 use Rattle.fn_model.specs.Calls.{own}
 use Rattle.fn_rows.specs.declared.Stage.{Stage}
 use Rattle.fn_rows.specs.declared.Stage.TheVariants.{Waiting, Lead, Late, Got}
 use Rattle.fn_rows.specs.Machine as local_step
-use Rattle.fn_rows.specs.Trace.{Traced, traced}
 use Rattle.fn_rows.proofs.Put.{put_here}
 use Rattle.fn_rows.specs.Machine.{looked}
 use Rattle.fn_core.specs.Tree.{aggregator, member, members}
 use Rattle.fn_core.specs.declared.Event.{Event}
-use Rattle.fn_core.specs.declared.Purpose.TheVariants as purpose
 use Rattle.fn_core.specs.declared.Move.{Move}
 use Rattle.fn_core.specs.declared.Move.TheVariants.{Scan, See, Announce, Arrive, Look, Close, Apply, Head, Fill, Point, Publish, Peek, Leave, Load, Exchange, Direct, Glance}
 use Rattle.fn_core.specs.declared.answer.Answer.TheVariants as answers
 use Rattle.fn_core.specs.declared.answer.CoreStep.{CoreStep}
 use Rattle.fn_core.specs.declared.answer.CoreStep.TheVariants.{Going, Ready, NotYet}
-use Rattle.fn_core.specs.declared.answer.Why.TheVariants.{Behind, Lost}
-use Rattle.fn_core.specs.State.{Start, Position, Resting, Trying, Climbing, Deciding, Caller, State, opened, history_in, stage, local, reply_of}
+use Rattle.fn_core.specs.declared.answer.Why.TheVariants.{Behind}
+use Rattle.fn_core.specs.State.{Start, Position, Resting, Trying, Climbing, Deciding, Caller, State, opened, history_in, stage, reply_of}
 use Rattle.fn_core.specs.Machine.{IsStart, May, Legal, run, effect, moves, place}
 use Rattle.fn_core.specs.Fields.{answer_of, exchange_answer}
 use Rattle.fn_core.specs.Steps.{loaded}
 use Rattle.fn_core.specs.Bound.{steps_left}
 use Rattle.fn_core.specs.Order.{next_move}
 use Rattle.fn_core.specs.Laws.{HasReply, IsUnderway, IsInCall, IsBehind, HasLost, HoldsRows}
-use Rattle.fn_core.specs.Calls.{CoreLog, state_in, with_move, stage_for, look_told, exchange_told, told_by, step_answer, Follows}
+use Rattle.fn_core.specs.Calls.{CoreLog, HasFewLeft, state_in, with_move, stage_for, look_told, exchange_told, told_by, step_answer, Follows}
 use Rattle.fn_core.proofs.Whole.{Whole, FitsAt}
 use Rattle.fn_core.proofs.Counted.{IsCounted, opened_counted}
 use Rattle.fn_core.proofs.Log.{opened_whole}
@@ -36,7 +34,7 @@ use Rattle.fn_core.proofs.Places.{stage_here}
 use Rattle.fn_core.proofs.Turns.{looks}
 use Rattle.fn_core.proofs.Owned.{Owned, opened_owned, log_owned, out_idle, nowhere}
 use Rattle.fn_core.proofs.Underway.{underway_kept}
-use Rattle.fn_core.proofs.Measure.{steps_run_out}
+use Rattle.fn_core.proofs.Measure.{steps_run_out, calls_are_short}
 use Rattle.fn_core.proofs.Joins.{own_calls_grow_by_one}
 use Rattle.fn_core.proofs.Laws.{replies_are_right}
 use Rattle.fn_core.proofs.Filling.{calls_always_go_on, run_push}
@@ -114,7 +112,7 @@ module _ (start : Start) (log : List Event) (ok : IsStart start) (legal : Legal 
       )
 
   -- a call that is underway is one that climbs, or has loaded a word at the top
-  in_call : IsUnderway start s p → IsInCall s p
+  pub in_call : IsUnderway start s p → IsInCall s p
   in_call u = by_position (s.callers p).position refl (all.0.fits p)
     where
       by_position : (position : Position) → (s.callers p).position ≡ position → FitsAt start s p position → IsInCall s p
@@ -217,6 +215,18 @@ module _ (start : Start) (log : List Event) (ok : IsStart start) (legal : Legal 
   by_move (Exchange kind amount) may u = exchange_follows kind amount may u
   by_move (Direct amount) may u = plain (Direct amount) refl refl refl may u
   by_move Glance may u = plain Glance refl refl refl may u
+
+  -- the call comes to an exchange only once it has loaded the main word at the top
+  exchange_left : IsUnderway start s p → (kind : Kind) (amount n : ℕ) → next_move start s p ≡ Exchange kind amount → steps_left start s p n ≡ 8 * start.shape.levels
+  exchange_left u kind amount n is = by_may (subst (May start s p) is (calls_always_go_on start log ok legal p range u).1)
+    where
+      by_may : May start s p (Exchange kind amount) → steps_left start s p n ≡ 8 * start.shape.levels
+      by_may (inl trying) = absurd (out_idle start ok s all.0 all.1 all.2 p range (subst (FitsAt start s p) trying.1 (all.0.fits p)) u)
+      by_may (inr deciding) = (calls_are_short start log ok legal p n (in_call u)).1 kind deciding.0 deciding.1 deciding.2
+
+  -- the steps that a call has left, before each of them
+  pub few_left : IsUnderway start s p → HasFewLeft old p
+  few_left u n holds = ((calls_are_short start log ok legal p n (in_call u)).0, (λ kind amount is. exchange_left u kind amount n is))
 
   told_so : (step : Move) (told : CoreStep) → Then (state_in (with_move old p step)) told → Follows old (with_move old p step) p told
   told_so step (Ready reply) h = h

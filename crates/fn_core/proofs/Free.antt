@@ -22,7 +22,7 @@ use Rattle.fn_core.proofs.Stays.{own_stays}
 use Rattle.fn_core.proofs.Steps.{events_are_steps}
 
 -- the ends of the rows and what the scans found are as they were
-abbrev Spared : local_step.State → local_step.State → Type 0
+abbrev pub Spared : local_step.State → local_step.State → Type 0
 Spared old new = (new.end ≡ old.end) × (new.found ≡ old.found)
 
 announce_spares : (s : local_step.State) (m : ℕ) (g : Stage) → Spared s (announce_by s m g)
@@ -68,7 +68,7 @@ IsSparing (local_step.Publish m) = ⊥
 IsSparing (local_step.Leave m) = ⊥
 IsSparing _ = Unit {0}
 
-step_spares : (s : local_step.State) (step : local_step.Step) → IsSparing step → Spared s (after s step)
+pub step_spares : (s : local_step.State) (step : local_step.Step) → IsSparing step → Spared s (after s step)
 step_spares s (local_step.Scan m q) is = absurd is
 step_spares s (local_step.See m) is = (refl, refl)
 step_spares s (local_step.Announce m) is = announce_spares s m (s.stage m)
@@ -90,7 +90,7 @@ free_spared count old new m r same free =
     (λ scanned. inr (λ q lt ne. let found = scanned q lt ne in (found.0, ap (λ (f : ℕ → ℕ → Option ℕ). f m q) same.1 ∙ found.1, subst (Lets found.0) (sym end) found.2))) free
 
 -- a move that spares a place takes a sparing step there
-sparing : (start : Start) (s : State) (p : ℕ) (move : Move) (kind : Kind) (level : ℕ) (step : local_step.Step) → Spares move kind level → IsStepOf start s p move kind level step → IsSparing step
+pub sparing : (start : Start) (s : State) (p : ℕ) (move : Move) (kind : Kind) (level : ℕ) (step : local_step.Step) → Spares move kind level → IsStepOf start s p move kind level step → IsSparing step
 sparing start s p (Scan k l other) kind level step spares is = absurd (spares (sym is.0) (sym is.1))
 sparing start s p (See k l) kind level step spares is = subst IsSparing (sym is.2) tt
 sparing start s p (Announce k l) kind level step spares is = subst IsSparing (sym is.2) tt

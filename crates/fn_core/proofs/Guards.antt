@@ -19,17 +19,17 @@ module _ (start : Start) (pass : ℕ) (s t : State) (same : own start t pass ≡
   caller : t.callers pass ≡ s.callers pass
   caller = ap (λ (o : Own). o.caller) same
 
-  position : (t.callers pass).position ≡ (s.callers pass).position
+  pub position : (t.callers pass).position ≡ (s.callers pass).position
   position = ap (λ (c : Caller). c.position) caller
 
-  stage_is : (kind : Kind) (level : ℕ) → stage start t kind level pass ≡ stage start s kind level pass
+  pub stage_is : (kind : Kind) (level : ℕ) → stage start t kind level pass ≡ stage start s kind level pass
   stage_is kind level = ap (λ (o : Own). o.stages kind level) same
 
-  found_is : (kind : Kind) (level other : ℕ) → (place start t kind level pass).found (member start.shape level pass) other ≡ (place start s kind level pass).found (member start.shape level pass) other
+  pub found_is : (kind : Kind) (level other : ℕ) → (place start t kind level pass).found (member start.shape level pass) other ≡ (place start s kind level pass).found (member start.shape level pass) other
   found_is kind level other = ap (λ (o : Own). o.found kind level other) same
 
   -- the end of a row of the pass
-  end_is : (kind : Kind) (level r : ℕ) → r / start.shape.rows ≡ member start.shape level pass → (place start t kind level pass).end r ≡ (place start s kind level pass).end r
+  pub end_is : (kind : Kind) (level r : ℕ) → r / start.shape.rows ≡ member start.shape level pass → (place start t kind level pass).end r ≡ (place start s kind level pass).end r
   end_is kind level r mine =
       let rows : ℕ = start.shape.rows in
       let e : r ≡ member start.shape level pass * rows + r % rows = sym (div-add-mod' r rows) ∙ ap (λ (x : ℕ). x * rows + r % rows) mine in
@@ -39,7 +39,7 @@ module _ (start : Start) (pass : ℕ) (s t : State) (same : own start t pass ≡
   free_is kind level n r mine (inl never) = inl (end_is kind level r mine ∙ never)
   free_is kind level n r mine (inr scans) = inr (λ q a b. let w = scans q a b in (w.0, found_is kind level q ∙ w.1, subst (Lets w.0) (sym (end_is kind level r mine)) w.2))
 
-  weight_is : (kind : Kind) (level : ℕ) → weight_of start t pass kind level ≡ weight_of start s pass kind level
+  pub weight_is : (kind : Kind) (level : ℕ) → weight_of start t pass kind level ≡ weight_of start s pass kind level
   weight_is kind level = ap (λ (x : Stage). hi_of x - lo_of x) (stage_is kind level)
 
   spend_is : (amount : ℕ) → MaySpend s pass amount → MaySpend t pass amount

@@ -9,7 +9,7 @@ use Rattle.fn_model.specs.declared.Kind.TheVariants as kinds
 use Rattle.fn_model.specs.Arrivals.{Arrival, Own, calls_of, expand, IsSound}
 use Rattle.fn_model.specs.Calls.{own}
 use Rattle.fn_model.specs.Histories.{OwnStep, StandsIn}
-use Rattle.fn_model.proofs.Histories.{stands_at_end, history_push}
+use Rattle.fn_model.proofs.Histories.{stands_at_end, history_push, place_of_call}
 use Rattle.fn_model.specs.Integer.{after}
 use Rattle.fn_model.proofs.Integer.{value_within_cap, value_within_sum}
 use Rattle.fn_rows.specs.declared.Stage.TheVariants.{Got}
@@ -29,7 +29,7 @@ use Rattle.fn_core.proofs.Climbs.{not_below}
 use Rattle.fn_core.proofs.Counted.{IsCounted, opened_counted, counts_keep, log_counted}
 use Rattle.fn_core.proofs.Log.{opened_whole, moves_keep}
 use Rattle.fn_core.proofs.Applies.{amount_enters}
-use Rattle.fn_core.proofs.Numbers.{call_at_place, own_first}
+use Rattle.fn_core.proofs.Numbers.{own_first}
 use Rattle.fn_core.proofs.Sums.{stands_once, amounts_small, main_small, main_with_left, total_small}
 
 -- after every legal log
@@ -38,7 +38,7 @@ holds start log ok legal = log_counted start ok log (opened start) (opened_whole
 
 -- a call that stands in the history has its place there
 has_place : (start : Start) → IsStart start → (s : State) → Whole start s → IsCounted start s → (call : Call) (base : ℕ) → StandsIn start.cap start.opening (history_in start s) (call ∷ []) base → HasReply start (history_in start s) call base
-has_place start ok s w c call base stands = call_at_place start.cap start.opening (history_in start s) call base (stands_once start ok s w c call.pass call.number).0 stands
+has_place start ok s w c call base stands = place_of_call start.cap start.opening (history_in start s) call base (stands_once start ok s w c call.pass call.number).0 stands
 
 pub replies_are_right : RepliesAreRight
 replies_are_right start log ok legal p kind base ahead got =

@@ -41,9 +41,13 @@ pub mod FirstFree
 pub mod Onward
 pub mod Bound
 pub mod Measure
+pub mod Short
 pub mod Grows
+pub mod Trees
 pub mod Joins
 pub mod Filling
+pub mod Chosen
+pub mod Next
 pub mod WordExamples
 pub mod Mirror
 pub mod Reached
@@ -52,6 +56,7 @@ pub mod Seats
 pub mod OnMain
 pub mod Underway
 pub mod Follows
+pub mod Polls
 pub mod Called
 pub mod Opened
 pub mod Looks

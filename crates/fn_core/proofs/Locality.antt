@@ -1,5 +1,5 @@
 -- An event changes nothing of any other pass.
-use Rattle.std.proofs.Common.{◌≡◌, ◌≢◌, inl, inr, ℕ, zero, suc, ◌-◌, ◌/◌, ◌<◌, ◌≤◌, Bool, true, false, cond, refl, sym, ◌∙◌, ap, subst, arith}
+use Rattle.std.proofs.Common.{◌≡◌, ◌≢◌, inl, inr, ℕ, zero, suc, ◌-◌, ◌/◌, ◌<◌, ◌≤◌, Bool, true, false, cond, [], ◌∷◌, refl, sym, ◌∙◌, ap, subst, arith}
 use Rattle.std.specs.Prelude.{if◌then◌else◌, ◌==◌, Some, None}
 use Rattle.fn_model.specs.declared.Kind.{Kind}
 use Rattle.fn_model.specs.declared.Kind.TheVariants as kinds
@@ -9,14 +9,14 @@ use Rattle.fn_rows.specs.declared.Field.{Field}
 use Rattle.fn_rows.specs.declared.Field.TheVariants.{Lo, Base, Prev}
 use Rattle.fn_rows.specs.Machine.{put, moved, announce_by, look_by, close_by, hand_by, head_by, stored, filled, fill_by, point_by, publish_by, peek_by, member_of, looked, peeked}
 use Rattle.fn_rows.specs.Machine as local_step
-use Rattle.fn_rows.specs.Trace.{Traced, traced}
+use Rattle.fn_rows.specs.Trace.{Traced, traced, head_noted, point_noted, publish_noted, peek_noted}
 use Rattle.fn_rows.proofs.Invariant.{Leading, IsOurs}
 use Rattle.fn_rows.proofs.Put.{put_there}
 use Rattle.fn_core.specs.declared.Purpose.TheVariants as purpose
 use Rattle.fn_core.specs.declared.Move.{Move}
 use Rattle.fn_core.specs.declared.Move.TheVariants.{Scan, See, Announce, Arrive, Look, Close, Apply, Head, Fill, Point, Publish, Peek, Leave, Load, Exchange, Direct, Glance}
 use Rattle.fn_core.specs.Tree.{aggregator, member, IsShape}
-use Rattle.fn_core.specs.State.{Start, Position, Resting, Trying, Climbing, Deciding, Caller, State, opened, stage, local, goes_to, after_call, next_call, reply_of}
+use Rattle.fn_core.specs.State.{Start, Position, Resting, Trying, Climbing, Deciding, State, opened, stage, local, goes_to, after_call, next_call, reply_of}
 use Rattle.fn_core.specs.Machine.{IsStart, May, Climbs, run, moves, makes, applies, applied_by, filled_by, peeked_by, loaded_by, exchanged_by, leaves, fills, place}
 use Rattle.fn_core.specs.Laws.{IsUntouched, IsLeftAlone, EventsAreLocal}
 use Rattle.fn_core.proofs.Members.{member_apart}
@@ -30,10 +30,10 @@ use Rattle.fn_core.proofs.Log.{opened_whole}
 
 -- the same state
 same_untouched : (rows : ℕ) (t : Traced) (q : ℕ) → IsUntouched rows t t q
-same_untouched rows t q = record { stage = refl; announced = refl; found = refl; ends = λ r own. refl }
+same_untouched rows t q = record { stage = refl; announced = refl; found = refl; ends = λ r own. refl; walk = refl }
 
 then_untouched : (rows : ℕ) (a b c : Traced) (q : ℕ) → IsUntouched rows a b q → IsUntouched rows b c q → IsUntouched rows a c q
-then_untouched rows a b c q x y = record { stage = y.stage ∙ x.stage; announced = y.announced ∙ x.announced; found = y.found ∙ x.found; ends = λ r own. y.ends r own ∙ x.ends r own }
+then_untouched rows a b c q x y = record { stage = y.stage ∙ x.stage; announced = y.announced ∙ x.announced; found = y.found ∙ x.found; ends = λ r own. y.ends r own ∙ x.ends r own; walk = y.walk ∙ x.walk }
 
 -- a step of one member leaves the others as they are
 module _ (rows : ℕ) (t : Traced) (q m : ℕ) (ne : q ≢ m) where
@@ -42,13 +42,13 @@ module _ (rows : ℕ) (t : Traced) (q m : ℕ) (ne : q ≢ m) where
 
   -- only the stage
   stage_left : (g : Stage) → Left (moved t.state m g)
-  stage_left g = record { stage = put_there t.stage m g q ne; announced = refl; found = refl; ends = λ r own. refl }
+  stage_left g = record { stage = put_there t.stage m g q ne; announced = refl; found = refl; ends = λ r own. refl; walk = refl }
 
   as_it_is : Left t.state
   as_it_is = same_untouched rows t q
 
   announce_left : (g : Stage) → Left (announce_by t.state m g)
-  announce_left (Saw seen) = record { stage = put_there t.stage m (Told seen) q ne; announced = put_there t.announced m (suc seen) q ne; found = refl; ends = λ r own. refl }
+  announce_left (Saw seen) = record { stage = put_there t.stage m (Told seen) q ne; announced = put_there t.announced m (suc seen) q ne; found = refl; ends = λ r own. refl; walk = refl }
   announce_left _ = as_it_is
 
   look_left : (g : Stage) → Left (look_by t.state m g)
@@ -69,12 +69,12 @@ module _ (rows : ℕ) (t : Traced) (q m : ℕ) (ne : q ≢ m) where
   head_left _ = as_it_is
 
   fill_left : (r : ℕ) (field : Field) (word : ℕ) (g : Stage) → Left (fill_by t.state m r field word g)
-  fill_left r Lo word g = record { stage = put_there t.stage m (filled r g) q ne; announced = refl; found = refl; ends = λ r own. refl }
-  fill_left r Base word g = record { stage = put_there t.stage m (filled r g) q ne; announced = refl; found = refl; ends = λ r own. refl }
-  fill_left r Prev word g = record { stage = put_there t.stage m (filled r g) q ne; announced = refl; found = refl; ends = λ r own. refl }
+  fill_left r Lo word g = record { stage = put_there t.stage m (filled r g) q ne; announced = refl; found = refl; ends = λ r own. refl; walk = refl }
+  fill_left r Base word g = record { stage = put_there t.stage m (filled r g) q ne; announced = refl; found = refl; ends = λ r own. refl; walk = refl }
+  fill_left r Prev word g = record { stage = put_there t.stage m (filled r g) q ne; announced = refl; found = refl; ends = λ r own. refl; walk = refl }
 
   point_left : (g : Stage) → Left (point_by t.state m g)
-  point_left (Filled at hi b r) = record { stage = put_there t.stage m (Pointed at hi b r) q ne; announced = refl; found = refl; ends = λ r own. refl }
+  point_left (Filled at hi b r) = record { stage = put_there t.stage m (Pointed at hi b r) q ne; announced = refl; found = refl; ends = λ r own. refl; walk = refl }
   point_left _ = as_it_is
 
   peek_left : (g : Stage) → Left (peek_by t.state m g)
@@ -89,24 +89,42 @@ module _ (rows : ℕ) (t : Traced) (q m : ℕ) (ne : q ≢ m) where
     announced = refl;
     found = refl;
     ends = λ x own. put_there t.end r hi x (λ e. ne (sym own ∙ ap (λ (y : ℕ). y / rows) e ∙ owns at hi b r refl));
+    walk = refl;
   }
   publish_left _ owns = as_it_is
 
+  -- what the step adds to the books is not the other's
+  head_walk : (g : Stage) → (head_noted t.state t.books m g).walk q ≡ t.walk q
+  head_walk (Late at) = put_there t.walk m ((t.last - 1) ∷ []) q ne
+  head_walk _ = refl
+
+  point_walk : (g : Stage) → (point_noted t.state t.books g).walk q ≡ t.walk q
+  point_walk (Filled at hi b r) = refl
+  point_walk _ = refl
+
+  publish_walk : (g : Stage) → (publish_noted t.state t.books g).walk q ≡ t.walk q
+  publish_walk (Pointed at hi b r) = refl
+  publish_walk _ = refl
+
+  peek_walk : (g : Stage) → (peek_noted t.state t.books m g).walk q ≡ t.walk q
+  peek_walk (Over at r) = put_there t.walk m ((t.prev r - 1) ∷ t.walk m) q ne
+  peek_walk _ = refl
+
 -- each local step, where whoever publishes a row owns it
 left_by : (rows : ℕ) (t : Traced) (step : local_step.Step) (q : ℕ) → q ≢ member_of step → ((at hi b r : ℕ) → t.stage (member_of step) ≡ Pointed at hi b r → r / rows ≡ member_of step) → IsUntouched rows t (traced t step) q
-left_by rows t (local_step.Scan m other) q ne owns = record { stage = refl; announced = refl; found = put_there t.found m (put (t.found m) other (Some (t.announced other))) q ne; ends = λ r own. refl }
-left_by rows t (local_step.See m) q ne owns = let h = stage_left rows t q m ne (Saw t.done) in record { stage = h.stage; announced = refl; found = refl; ends = λ r own. refl }
-left_by rows t (local_step.Announce m) q ne owns = let h = announce_left rows t q m ne (t.stage m) in record { stage = h.stage; announced = h.announced; found = h.found; ends = h.ends }
-left_by rows t (local_step.Arrive m weight) q ne owns = record { stage = put_there t.stage m (Waiting t.total) q ne; announced = refl; found = refl; ends = λ r own. refl }
-left_by rows t (local_step.Look m) q ne owns = let h = look_left rows t q m ne (t.stage m) in record { stage = h.stage; announced = h.announced; found = h.found; ends = h.ends }
-left_by rows t (local_step.Close m) q ne owns = let h = close_left rows t q m ne (t.stage m) in record { stage = h.stage; announced = h.announced; found = h.found; ends = h.ends }
-left_by rows t (local_step.Hand_base m b) q ne owns = let h = hand_left rows t q m ne b (t.stage m) in record { stage = h.stage; announced = h.announced; found = h.found; ends = h.ends }
-left_by rows t (local_step.Head m) q ne owns = let h = head_left rows t q m ne (t.stage m) in record { stage = h.stage; announced = h.announced; found = h.found; ends = h.ends }
-left_by rows t (local_step.Fill m r field word) q ne owns = let h = fill_left rows t q m ne r field word (t.stage m) in record { stage = h.stage; announced = h.announced; found = h.found; ends = h.ends }
-left_by rows t (local_step.Point m) q ne owns = let h = point_left rows t q m ne (t.stage m) in record { stage = h.stage; announced = h.announced; found = h.found; ends = h.ends }
-left_by rows t (local_step.Publish m) q ne owns = let h = publish_left rows t q m ne (t.stage m) owns in record { stage = h.stage; announced = h.announced; found = h.found; ends = h.ends }
-left_by rows t (local_step.Peek m) q ne owns = let h = peek_left rows t q m ne (t.stage m) in record { stage = h.stage; announced = h.announced; found = h.found; ends = h.ends }
-left_by rows t (local_step.Leave m) q ne owns = record { stage = put_there t.stage m Out q ne; announced = put_there t.announced m 0 q ne; found = put_there t.found m (λ other. None) q ne; ends = λ r own. refl }
+left_by rows t (local_step.Scan m other) q ne owns = record { stage = refl; announced = refl; found = put_there t.found m (put (t.found m) other (Some (t.announced other))) q ne; ends = λ r own. refl; walk = refl }
+left_by rows t (local_step.See m) q ne owns = let h = stage_left rows t q m ne (Saw t.done) in record { stage = h.stage; announced = refl; found = refl; ends = λ r own. refl; walk = refl }
+left_by rows t (local_step.Announce m) q ne owns = let h = announce_left rows t q m ne (t.stage m) in record { stage = h.stage; announced = h.announced; found = h.found; ends = h.ends; walk = refl }
+left_by rows t (local_step.Arrive m weight) q ne owns = record { stage = put_there t.stage m (Waiting t.total) q ne; announced = refl; found = refl; ends = λ r own. refl; walk = refl }
+left_by rows t (local_step.Look m) q ne owns = let h = look_left rows t q m ne (t.stage m) in record { stage = h.stage; announced = h.announced; found = h.found; ends = h.ends; walk = refl }
+left_by rows t (local_step.Close m) q ne owns = let h = close_left rows t q m ne (t.stage m) in record { stage = h.stage; announced = h.announced; found = h.found; ends = h.ends; walk = refl }
+left_by rows t (local_step.Hand_base m b) q ne owns = let h = hand_left rows t q m ne b (t.stage m) in record { stage = h.stage; announced = h.announced; found = h.found; ends = h.ends; walk = refl }
+left_by rows t (local_step.Head m) q ne owns = let h = head_left rows t q m ne (t.stage m) in record { stage = h.stage; announced = h.announced; found = h.found; ends = h.ends; walk = head_walk rows t q m ne (t.stage m) }
+left_by rows t (local_step.Fill m r field word) q ne owns = let h = fill_left rows t q m ne r field word (t.stage m) in record { stage = h.stage; announced = h.announced; found = h.found; ends = h.ends; walk = refl }
+left_by rows t (local_step.Point m) q ne owns = let h = point_left rows t q m ne (t.stage m) in record { stage = h.stage; announced = h.announced; found = h.found; ends = h.ends; walk = point_walk rows t q m ne (t.stage m) }
+left_by rows t (local_step.Publish m) q ne owns = let h = publish_left rows t q m ne (t.stage m) owns in record { stage = h.stage; announced = h.announced; found = h.found; ends = h.ends; walk = publish_walk rows t q m ne (t.stage m) }
+left_by rows t (local_step.Peek m) q ne owns = let h = peek_left rows t q m ne (t.stage m) in record { stage = h.stage; announced = h.announced; found = h.found; ends = h.ends; walk = peek_walk rows t q m ne (t.stage m) }
+left_by rows t (local_step.Leave m) q ne owns = record { stage = put_there t.stage m Out q ne; announced = put_there t.announced m 0 q ne; found = put_there t.found m (λ other. None) q ne; ends = λ r own. refl; walk = refl }
 
 module _ (start : Start) (ok : IsShape start.shape) where
   -- a step at one aggregator leaves the places of other passes as they are
@@ -128,9 +146,6 @@ module _ (start : Start) (ok : IsShape start.shape) where
             subst (λ (x : Bool). IsUntouched start.shape.rows (place start s k l q) (cond x next (s.rows k l (aggregator start.shape q l))) (member start.shape l q)) (sym is.3)
             (subst (λ (x : Traced). IsUntouched start.shape.rows x next (member start.shape l q)) old here)
       ]
-
-  caller_left : (callers : ℕ → Caller) (p q : ℕ) (c : Caller) → q ≢ p → put callers p c q ≡ callers q
-  caller_left callers p q c ne = put_there callers p c q ne
 
 alone_either : (start : Start) (s : State) (q : ℕ) (test : Bool) (x y : State) → IsLeftAlone start s x q → IsLeftAlone start s y q → IsLeftAlone start s (if test then x else y) q
 alone_either start s q true x y a b = a

@@ -1,5 +1,5 @@
 -- Each event keeps what holds, so it holds after every legal log.
-use Rattle.std.proofs.Common.{◌≡◌, inl, inr, ℕ, zero, suc, ◌<◌, ◌≤◌, List, [], ◌∷◌, Bool, true, false, refl, sym, subst, arith}
+use Rattle.std.proofs.Common.{◌≡◌, inl, inr, ℕ, zero, suc, ◌<◌, ◌≤◌, [], Bool, true, false, refl, sym, subst, arith}
 use Rattle.std.specs.Prelude.{if◌then◌else◌, ◌==◌}
 use Rattle.fn_model.specs.declared.Kind.{Kind}
 use Rattle.fn_model.specs.declared.Kind.TheVariants as kinds
@@ -11,10 +11,9 @@ use Rattle.fn_rows.proofs.Invariant.{inv_start}
 use Rattle.fn_core.specs.declared.Purpose.TheVariants as purpose
 use Rattle.fn_core.specs.declared.Move.{Move}
 use Rattle.fn_core.specs.declared.Move.TheVariants.{Scan, See, Announce, Arrive, Look, Close, Apply, Head, Fill, Point, Publish, Peek, Leave, Load, Exchange, Direct, Glance}
-use Rattle.fn_core.specs.declared.Event.{Event}
 use Rattle.fn_core.specs.Tree.{leaf, parent, members}
 use Rattle.fn_core.specs.State.{Start, Position, Resting, Trying, Climbing, Deciding, State, opened, stage, local, goes_to}
-use Rattle.fn_core.specs.Machine.{IsStart, Climbs, May, IsAtTop, weight_of, effect, moves, Legal, run, fills, applies, makes, applied_by, filled_by, peeked_by, loaded_by, exchanged_by}
+use Rattle.fn_core.specs.Machine.{IsStart, Climbs, May, IsAtTop, weight_of, moves, fills, applies, makes, applied_by, filled_by, peeked_by, loaded_by, exchanged_by}
 use Rattle.fn_core.specs.Positions.{IsClimbing}
 use Rattle.fn_core.proofs.Whole.{Whole, stages_of, FitsAt, climbing, goes_whole}
 use Rattle.fn_core.proofs.Climbs.{not_below, announce_keeps, look_keeps, close_keeps, head_keeps, late_keeps, fill_keeps, point_keeps, publish_keeps, peek_lo_keeps, peek_prev_keeps, peek_base_keeps}
@@ -123,8 +122,3 @@ module _ (start : Start) (ok : IsStart start) (s : State) (w : Whole start s) (p
   moves_keep (Exchange kind amount) (inr may) = subst (λ (x : Position). Whole start (exchanged_by start s p kind amount x)) (sym may.2) (batch_exchange kind amount may.1 may.0 may.2 may.3)
   moves_keep (Direct amount) may = makes_keeps start ok s w p kinds.Add amount (rests_out start ok s w p range may.0)
   moves_keep Glance may = w
-
--- after every legal log
-pub log_whole : (start : Start) → IsStart start → (log : List Event) (s : State) → Whole start s → Legal start log s → Whole start (run start log s)
-log_whole start ok [] s w legal = w
-log_whole start ok (event ∷ log) s w legal = log_whole start ok log (effect start s event) (moves_keep start ok s w event.pass legal.0.0 event.step legal.0.1) legal.1

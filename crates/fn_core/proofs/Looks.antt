@@ -1,5 +1,5 @@
 -- What the fields of a machine that has taken a legal log say of where a pass stands.
-use Rattle.std.proofs.Common.{◌≡◌, ◌≢◌, inl, inr, ℕ, zero, suc, ◌+◌, ◌-◌, ◌*◌, ◌/◌, ◌%◌, ◌<◌, ◌≤◌, Bool, true, false, List, refl, sym, ◌∙◌, ap, subst, arith, slice_index_or}
+use Rattle.std.proofs.Common.{◌≡◌, ◌≢◌, inl, inr, ℕ, zero, suc, ◌+◌, ◌-◌, ◌*◌, ◌/◌, ◌<◌, ◌≤◌, Bool, true, false, List, refl, sym, ◌∙◌, ap, subst, arith, slice_index_or}
 use Rattle.std.specs.Prelude.{Some, IsTrue, ◌↔◌, ◌==◌, if◌then◌else◌}
 use Rattle.std.proofs.lemmas.Bool.{cases_eq, eqb-true, eq-eqb, false≢true}
 use Rattle.fn_model.specs.declared.Kind.{Kind}
@@ -20,8 +20,8 @@ use Rattle.fn_core.specs.Machine.{HasFreeRow, MayArrive, run, weight_of, place}
 use Rattle.fn_core.specs.Order.{IsFirst, first_below, is_free, first_free, weight_below, next_on_row, next_at, next_by}
 use Rattle.fn_core.specs.Filling.{FillsAt, fills_later}
 use Rattle.fn_core.specs.Positions.{IsClimbing}
-use Rattle.fn_core.specs.Fields.{Stands, StandsAt, ClimbsIn, IsPlace}
-use Rattle.fn_core.proofs.FirstFree.{first_holds, is_free_means, means_is_free, first_is_free, free_rows_are_found}
+use Rattle.fn_core.specs.Fields.{Stands, ClimbsIn}
+use Rattle.fn_core.proofs.FirstFree.{is_free_means, means_is_free, first_is_free, free_rows_are_found}
 use Rattle.fn_core.proofs.Filling.{calls_keep_rows}
 use Rattle.fn_core.proofs.Members.{members_few}
 use Rattle.fn_core.proofs.Names.{hand_owned}

@@ -1,11 +1,12 @@
 -- Each own step of a call leaves fewer.
-use Rattle.std.proofs.Common.{◌≡◌, ◌≢◌, ◌⊎◌, inl, inr, ℕ, zero, suc, ◌+◌, ◌-◌, ◌*◌, ◌<◌, ◌≤◌, length, Bool, refl, sym, ◌∙◌, ap, subst, arith}
+use Rattle.std.proofs.Common.{◌≡◌, ◌≢◌, ◌⊎◌, inl, inr, ⊎_elim, ℕ, zero, suc, ◌+◌, ◌-◌, ◌*◌, ◌<◌, ◌≤◌, length, Bool, refl, sym, ◌∙◌, ap, subst, arith}
 use Rattle.std.specs.Prelude.{if◌then◌else◌}
 use Rattle.std.proofs.lemmas.Bool.{cases_eq, eq-eqb}
-use Rattle.std.proofs.Math.Nat.{mul-le-mul_left, suc-mul, zero-mul}
+use Rattle.std.proofs.Math.Nat.{add-mul, mul-le-mul_left, suc-mul, zero-mul}
 use Rattle.fn_model.specs.declared.Kind.{Kind}
 use Rattle.fn_model.specs.declared.Kind.TheVariants as kinds
-use Rattle.fn_rows.specs.declared.Stage.TheVariants.{Saw, Shut}
+use Rattle.fn_rows.specs.declared.Stage.{Stage}
+use Rattle.fn_rows.specs.declared.Stage.TheVariants.{Out, Saw, Told, Waiting, Lead, Late, Shut, Based, Headed, FilledLo, FilledBase, Filled, Pointed, At, Over, Hit, Got}
 use Rattle.fn_rows.specs.declared.Field.{Field}
 use Rattle.fn_rows.specs.Machine as local_step
 use Rattle.fn_rows.specs.Trace.{Traced, traced, nothing}
@@ -20,11 +21,11 @@ use Rattle.fn_core.specs.declared.Move.{Move}
 use Rattle.fn_core.specs.declared.Move.TheVariants.{Scan, See, Announce, Arrive, Look, Close, Apply, Head, Fill, Point, Publish, Peek, Leave, Load, Exchange, Direct, Glance}
 use Rattle.fn_core.specs.Tree.{aggregator, member, members}
 use Rattle.fn_core.specs.State.{Start, Position, Resting, Trying, Climbing, Deciding, Caller, State, opened, stage, local, goes_to, after_call, next_call}
-use Rattle.fn_core.specs.Machine.{IsStart, May, Climbs, run, moves, applies, arrives, applied_by, filled_by, peeked_by, loaded_by, exchanged_by, leaves, fills, local_row, word_of}
+use Rattle.fn_core.specs.Machine.{IsStart, May, Climbs, run, effect, moves, applies, arrives, applied_by, filled_by, peeked_by, loaded_by, exchanged_by, leaves, fills, local_row, word_of}
 use Rattle.fn_core.specs.Positions.{IsClimbing}
 use Rattle.fn_core.specs.Steps.{loaded}
-use Rattle.fn_core.specs.Bound.{climb_cost, left_at, steps_left, steps_left_by}
-use Rattle.fn_core.specs.Laws.{IsInCall, IsBehind, HasLost, HoldsRows, StepsRunOut, CallsAreShort}
+use Rattle.fn_core.specs.Bound.{rank, to_climb, climb_cost, left_at, visited_by, steps_left, steps_left_by}
+use Rattle.fn_core.specs.Laws.{IsInCall, IsBehind, HasLost, HoldsRows, IsLeftAlone, StepsRunOut, CallsAreShort, OthersCostNothing}
 use Rattle.fn_core.proofs.Bound.{announce_drops, arrive_drops, look_drops, close_drops, head_drops, fill_drops, point_drops, publish_drops, peek_drops, hand_drops, hand_stage}
 use Rattle.fn_core.proofs.Turns.{sees}
 use Rattle.fn_core.proofs.Members.{member_within}
@@ -33,6 +34,7 @@ use Rattle.fn_core.proofs.Whole.{Whole, stages_of, FitsAt, climbing}
 use Rattle.fn_core.proofs.Climbs.{not_below}
 use Rattle.fn_core.proofs.Counted.{opened_counted, log_counted}
 use Rattle.fn_core.proofs.Descends.{here'}
+use Rattle.fn_core.proofs.Locality.{events_are_local}
 use Rattle.fn_core.proofs.Log.{opened_whole, moves_keep}
 
 -- no walk is longer than there are rows
@@ -269,12 +271,82 @@ climb_sum : (n k : ℕ) → climb_cost n k ≡ k * (2 * n + 13)
 climb_sum n zero = sym (zero-mul (2 * n + 13))
 climb_sum n (suc k) = ap (λ (x : ℕ). x + (2 * n + 13)) (climb_sum n k) ∙ sym (suc-mul k (2 * n + 13))
 
+-- the steps at an aggregator, with those of the further climb
+stage_cost : (n visited cost : ℕ) (g : Stage) → rank n visited g + to_climb cost g ≤ 2 * n + 13 + cost
+stage_cost n visited cost Out = omega arith
+stage_cost n visited cost (Saw seen) = omega arith
+stage_cost n visited cost (Told seen) = omega arith
+stage_cost n visited cost (Waiting at) = omega arith
+stage_cost n visited cost (Lead at) = omega arith
+stage_cost n visited cost (Late at) = omega arith
+stage_cost n visited cost (Shut at hi) = omega arith
+stage_cost n visited cost (Based at hi b) = omega arith
+stage_cost n visited cost (Headed at hi b h) = omega arith
+stage_cost n visited cost (FilledLo at hi b h r) = omega arith
+stage_cost n visited cost (FilledBase at hi b h r) = omega arith
+stage_cost n visited cost (Filled at hi b r) = omega arith
+stage_cost n visited cost (Pointed at hi b r) = omega arith
+stage_cost n visited cost (At at r) = omega arith
+stage_cost n visited cost (Over at r) = omega arith
+stage_cost n visited cost (Hit at r lo) = omega arith
+stage_cost n visited cost (Got b ahead) = omega arith
+
+-- the levels above, this one, and those below
+level_sum : (n above below : ℕ) → above * (2 * n + 13) + (2 * n + 13) + 8 * below ≤ (above + suc below) * (2 * n + 14)
+level_sum n above below =
+    let each : ℕ = 2 * n + 14 in
+    let parts : (above + suc below) * each ≡ above * each + suc below * each = add-mul above (suc below) each in
+    let first : suc below * each ≡ below * each + each = suc-mul below each in
+    let climb : above * (2 * n + 13) ≤ above * each = mul-le-mul_left above (omega arith) in
+    let down : below * 8 ≤ below * each = mul-le-mul_left below (omega arith) in
+    omega (arith, parts, first, climb, down)
+
 pub calls_are_short : CallsAreShort
-calls_are_short start log ok legal p n at kind is waits =
+calls_are_short start log ok legal p n called = (⊎_elim climbing_short deciding_short called, (λ kind level word is. decided kind level word is))
+  where
+    s : State
+    s = run start log (opened start)
+
+    levels : ℕ
+    levels = start.shape.levels
+
+    whole : Whole start s
+    whole = (log_counted start ok log (opened start) (opened_whole start ok) (opened_counted start) legal).0
+
+    decided : (kind : Kind) (level word : ℕ) → (s.callers p).position ≡ Deciding kind level word → steps_left start s p n ≡ 8 * levels
+    decided kind level word is =
+        let fit : FitsAt start s p (Deciding kind level word) = subst (FitsAt start s p) is (whole.fits p) in
+        let up : IsClimbing levels (stages_of start s p) kind level = fit.0 in
+        let low : 1 ≤ level = up.low in
+        let top : level ≡ levels = fit.1 in
+        ap (steps_left_by start s p n) is ∙ omega (arith, low, top)
+
+    climbing_short : (kind : Kind) × (level : ℕ) × ((s.callers p).position ≡ Climbing kind level) → steps_left start s p n ≤ levels * (2 * n + 14)
+    climbing_short (kind, level, is) =
+        let up : IsClimbing levels (stages_of start s p) kind level = climbing start ok s whole p kind level is in
+        let low : 1 ≤ level = up.low in
+        let high : level ≤ levels = up.high in
+        let above : ℕ = levels - level in
+        let below : ℕ = level - 1 in
+        let parts : above + suc below ≡ levels = omega (arith, low, high) in
+        let now : steps_left start s p n ≡ left_at n levels level (visited_by start s p kind level) (stage start s kind level p) = ap (steps_left_by start s p n) is in
+        let cost = stage_cost n (visited_by start s p kind level) (climb_cost n above) (stage start s kind level p) in
+        omega (arith, now, cost, climb_sum n above, level_sum n above below, ap (λ (x : ℕ). x * (2 * n + 14)) parts)
+
+    deciding_short : (kind : Kind) × (level word : ℕ) × ((s.callers p).position ≡ Deciding kind level word) → steps_left start s p n ≤ levels * (2 * n + 14)
+    deciding_short (kind, level, word, is) =
+        let most : levels * 8 ≤ levels * (2 * n + 14) = mul-le-mul_left levels (omega arith) in
+        omega (arith, decided kind level word is, most)
+
+-- what a pass has left, by its position, its stages and how many rows it has had in hand
+pub others_cost_nothing : OthersCostNothing
+others_cost_nothing start log ok legal event allowed other n ne =
     let s : State = run start log (opened start) in
-    let levels : ℕ = start.shape.levels in
-    let some : 1 ≤ levels = ok.shape.levels in
-    let now : steps_left start s p n ≡ 11 + 2 * n + climb_cost n (levels - 1) + 8 * (1 - 1) = ap (steps_left_by start s p n) is ∙ ap (left_at n levels 1 (length ((s.rows kind 1 (aggregator start.shape p 1)).walk (member start.shape 1 p)))) waits in
-    let whole : (levels - 1) * (2 * n + 14) + (2 * n + 14) ≡ levels * (2 * n + 14) = sym (suc-mul (levels - 1) (2 * n + 14)) ∙ ap (λ (x : ℕ). x * (2 * n + 14)) (let e : suc (levels - 1) ≡ levels = omega arith in e) in
-    let less : (levels - 1) * (2 * n + 13) ≤ (levels - 1) * (2 * n + 14) = mul-le-mul_left (levels - 1) (omega arith) in
-    omega (arith, now, climb_sum n (levels - 1), whole, less)
+    let next : State = effect start s event in
+    let alone : IsLeftAlone start s next other = events_are_local start log ok legal event allowed other ne in
+    ap (λ (c : Caller). steps_left_by start next other n c.position) alone.caller ∙ by_position s next alone (s.callers other).position
+  where
+    by_position : (s next : State) → IsLeftAlone start s next other → (position : Position) → steps_left_by start next other n position ≡ steps_left_by start s other n position
+    by_position s next alone (Climbing kind level) i = left_at n start.shape.levels level (length ((alone.places kind level).walk i)) ((alone.places kind level).stage i)
+    by_position s next alone (Deciding kind level word) i = 8 + 8 * (level - 1)
+    by_position s next alone _ i = 0

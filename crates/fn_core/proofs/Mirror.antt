@@ -1,7 +1,7 @@
 -- How the fields of a machine in code follow the changes of its state.
-use Rattle.std.proofs.Common.{◌≡◌, ◌≢◌, inl, inr, ℕ, suc, ◌+◌, ◌-◌, ◌*◌, ◌<◌, ◌≤◌, List, length, get_or, set, refl, sym, ◌∙◌, ap, subst, arith}
+use Rattle.std.proofs.Common.{◌≡◌, ◌≢◌, inl, inr, ℕ, ◌<◌, List, length, get_or, set, sym, ◌∙◌, ap, subst, arith}
 use Rattle.std.specs.Prelude.{Some, slice_get, slice_index_or, cond, ◌==◌}
-use Rattle.std.proofs.lemmas.Bool.{cases_eq, eq-eqb, false≢true}
+use Rattle.std.proofs.lemmas.Bool.{eq-eqb, false≢true}
 use Rattle.std.proofs.lemmas.List.{get_or-set_same, get_or-set_other, length-set}
 use Rattle.std.proofs.lemmas.Option.{slice_get-get_or, get_or_from_slice_get, slice_get_within}
 use Rattle.fn_model.specs.declared.Kind.{Kind}
@@ -11,10 +11,10 @@ use Rattle.fn_rows.specs.Machine.{Step, Guard, member_of, put, after}
 use Rattle.fn_rows.specs.Machine as rows_machine
 use Rattle.fn_rows.specs.Aggregator as rows
 use Rattle.fn_rows.specs.Trace.{Traced, traced}
-use Rattle.fn_rows.proofs.Put.{put_case, put_here, put_there}
+use Rattle.fn_rows.proofs.Put.{put_case}
 use Rattle.fn_layout.specs.declared.shape.Shape.{Shape}
 use Rattle.fn_layout.specs.Tree.{aggregator, member, members}
-use Rattle.fn_layout.specs.Words.{Name, Value, IsAggregator, IsSlot, aggregator_number, number}
+use Rattle.fn_layout.specs.Words.{Value, IsAggregator, IsSlot, aggregator_number, number}
 use Rattle.fn_layout.proofs.Tree.{aggregator_below}
 use Rattle.fn_layout.proofs.Read.{names_are_distinct}
 use Rattle.fn_layout.proofs.Members.{members_are_numbered}

@@ -1,17 +1,13 @@
 -- The own calls of a pass, by number.
-use Rattle.std.proofs.Common.{◌≡◌, ◌≢◌, ◌⊎◌, inl, inr, ℕ, suc, ◌+◌, ◌<◌, ◌≤◌, List, [], ◌∷◌, ◌++◌, length, Bool, true, false, cond, refl, sym, ◌∙◌, ap, subst, arith, append_assoc}
-use Rattle.std.specs.Prelude.{not, ⊤, ◌==◌, filter, count_by, get_or, nat_lt, Some, None}
-use Rattle.std.specs.List.{position_or_len}
-use Rattle.std.proofs.lemmas.Bool.{cases_eq, cases_lt, eq-eqb, ne_eqb, lt-ltb}
+use Rattle.std.proofs.Common.{◌≡◌, ◌≢◌, ◌⊎◌, inl, inr, ℕ, suc, ◌+◌, ◌<◌, ◌≤◌, List, [], ◌∷◌, ◌++◌, length, Bool, true, false, cond, refl, sym, ◌∙◌, ap, subst, arith}
+use Rattle.std.specs.Prelude.{not, ⊤, ◌==◌, filter}
+use Rattle.std.proofs.lemmas.Bool.{cases_eq, cases_lt, eq-eqb, ne_eqb}
 use Rattle.std.proofs.lemmas.Bool.Decides.{nat_tests}
-use Rattle.std.proofs.lemmas.List.{append-nil, length-append, get_or_at}
+use Rattle.std.proofs.lemmas.List.{append-nil}
 use Rattle.std.proofs.lemmas.List.Elements.{filter-append}
-use Rattle.std.proofs.lemmas.List.Sums.{length-filter, sum_by-cons}
+use Rattle.std.proofs.lemmas.List.Sums.{length-filter}
 use Rattle.fn_model.specs.declared.Call.{Call}
-use Rattle.fn_model.specs.Calls.{own, is_call, count, place}
-use Rattle.fn_model.specs.Integer.{before}
-use Rattle.fn_model.proofs.Histories.{is_call_itself, no_count}
-use Rattle.fn_model.proofs.Integer.{before-append}
+use Rattle.fn_model.specs.Calls.{own, is_call, count}
 use Rattle.fn_model.specs.Histories.{StandsIn}
 use Rattle.fn_model.proofs.Calls.{own_by_number}
 use Rattle.fn_model.proofs.Once.{count-append, count-cons}
@@ -133,31 +129,3 @@ order_grows p k past more numbered below beyond once =
           let missing : count p k past ≡ 0 = omega (arith, count-append p k past more, once k) in
           subst (λ (zs : List Call). AreNumbered 0 (own p past ++ zs)) (sym is.1) (numbered_push 0 (own p past) is.0 numbered (omega (arith, number, how_many p k past numbered below missing)))
     ])
-
--- the first call that passes a test stands behind those that don't
-first_behind : (p : Call → Bool) (earlier : List Call) (call : Call) (later : List Call) → count_by p earlier ≡ 0 → p call ≡ true → position_or_len p (earlier ++ call ∷ later) ≡ length earlier
-first_behind p [] call later none passes = ap (λ (b : Bool). cond (not b) (1 + position_or_len p later) 0) passes
-first_behind p (x ∷ earlier) call later none passes =
-    let e : count_by p (x ∷ earlier) ≡ cond (p x) 1 0 + count_by p earlier = sum_by-cons (λ y. cond (p y) 1 0) x earlier in
-    let rest : position_or_len p (earlier ++ call ∷ later) ≡ length earlier = first_behind p earlier call later (omega arith) passes in
-    ap (λ (b : Bool). cond (not b) (1 + position_or_len p (earlier ++ call ∷ later)) 0) (no_count (p x) (count_by p earlier) (sym e ∙ none))
-    ∙ omega arith
-
--- a call that stands in a history at most once has its place there, and meets the base there
-pub call_at_place : (cap opening : ℕ) (past : List Call) (call : Call) (base : ℕ) → count call.pass call.number past ≤ 1 → StandsIn cap opening past (call ∷ []) base → (i : ℕ) × (place call.pass call.number past ≡ Some i) × (i < length past) × (get_or past i call ≡ call) × (before cap opening past i ≡ base)
-call_at_place cap opening past call base once stands =
-    let p : Call → Bool = is_call call.pass call.number in
-    let earlier : List Call = stands.earlier in
-    let later : List Call = stands.later in
-    let passes : p call ≡ true = is_call_itself call in
-    let order : past ≡ earlier ++ (call ∷ later) = stands.order ∙ append_assoc earlier (call ∷ []) later in
-    let parts : count_by p past ≡ count_by p earlier + count_by p (call ∷ later) = ap (count_by p) order ∙ count-append call.pass call.number earlier (call ∷ later) in
-    let one : count_by p (call ∷ later) ≡ 1 + count_by p later = count-cons call.pass call.number call later ∙ ap (λ (n : ℕ). n + count_by p later) (one_is call.pass call.number call refl refl) in
-    let at : position_or_len p past ≡ length earlier = ap (position_or_len p) order ∙ first_behind p earlier call later (omega arith) passes in
-    let within : length earlier < length past = omega (arith, ap length order, length-append earlier (call ∷ later)) in (
-      length earlier,
-      ap (λ (n : ℕ). cond (nat_lt n (length past)) (Some n) None) at ∙ ap (λ (b : Bool). cond b (Some (length earlier)) None) (lt-ltb (length earlier) (length past) within),
-      within,
-      ap (λ (zs : List Call). get_or zs (length earlier) call) order ∙ get_or_at earlier call later call (length earlier) refl,
-      ap (λ (zs : List Call). before cap opening zs (length earlier)) order ∙ before-append cap opening earlier (call ∷ later) ∙ sym stands.met,
-    )

@@ -1,5 +1,5 @@
 -- A step on the main word, on the fields of a machine that has taken a legal log.
-use Rattle.std.proofs.Common.{◌≡◌, ◌≢◌, inl, inr, ℕ, ◌-◌, ◌<◌, ◌≤◌, Bool, true, false, List, refl, sym, ◌∙◌, ap, subst, arith, slice_index_or}
+use Rattle.std.proofs.Common.{◌≡◌, ◌≢◌, ℕ, ◌-◌, ◌<◌, Bool, true, false, List, refl, sym, ◌∙◌, ap, subst, arith, slice_index_or}
 use Rattle.std.specs.Prelude.{Some, slice_get, ◌==◌, if◌then◌else◌}
 use Rattle.std.specs.Vec.{with_item}
 use Rattle.std.proofs.lemmas.Bool.{eq-eqb, ne_eqb}
@@ -15,7 +15,7 @@ use Rattle.fn_layout.specs.Words.{IsSlot, aggregator_number}
 use Rattle.fn_core.specs.declared.Event.{Event}
 use Rattle.fn_core.specs.declared.machine.Machine.{Machine}
 use Rattle.fn_core.specs.declared.machine.Standing.{Standing}
-use Rattle.fn_core.specs.declared.Move.TheVariants.{Apply, Exchange}
+use Rattle.fn_core.specs.declared.Move.TheVariants.{Apply}
 use Rattle.fn_core.specs.State.{Start, Caller, stage, Position, Resting, Trying, Climbing, Deciding, State, opened, goes_to, next_call, after_call}
 use Rattle.fn_core.specs.declared.answer.Answer.{Answer}
 use Rattle.fn_core.specs.declared.answer.Answer.TheVariants.{Won, Lost}

@@ -1,24 +1,21 @@
 -- The words of a funnel that has just been opened.
 use Rattle.std.proofs.Common.{◌≡◌, ℕ, zero, suc, ◌+◌, ◌-◌, ◌*◌, ◌/◌, ◌^◌, ◌<◌, ◌≤◌, inl, inr, List, [], ◌∷◌, ◌++◌, length, map, refl, sym, ◌∙◌, ap, subst, arith}
-use Rattle.std.specs.Prelude.{Option, Some, None, slice_get, get_or, sum, min, option_map}
+use Rattle.std.specs.Prelude.{Some, slice_get, sum, option_map}
 use Rattle.std.proofs.lemmas.Bool.{cases_lt}
 use Rattle.std.proofs.lemmas.List.{length-append}
 use Rattle.std.proofs.lemmas.Nat.{pow_pos, le-div}
-use Rattle.std.proofs.lemmas.Option.{slice_get-map, slice_get-get_or, slice_get_within}
+use Rattle.std.proofs.lemmas.Option.{slice_get-map, slice_get-get_or}
 use Rattle.std.proofs.Math.Nat.{mul-pos}
-use Rattle.fn_model.specs.declared.Kind.{Kind}
 use Rattle.fn_model.specs.declared.Kind.TheVariants.{Add, Sub, Read}
 use Rattle.fn_rows.specs.Aggregator.{Aggregator, Starts}
-use Rattle.fn_rows.specs.Trace.{Traced, nothing}
+use Rattle.fn_rows.specs.Trace.{nothing}
 use Rattle.fn_layout.specs.declared.shape.Shape.{Shape}
 use Rattle.fn_layout.specs.Tree.{width_above, width, first_widths, first_leaf, leaves_under, members}
-use Rattle.fn_layout.specs.Words.{IsAggregator, aggregators, aggregator_number}
-use Rattle.fn_layout.proofs.Tree.{width-above, in_widths}
+use Rattle.fn_layout.specs.Words.{aggregators}
 use Rattle.fn_layout.proofs.Members.{first_leaf_within, members-is}
 use Rattle.fn_core.specs.declared.machine.Machine.{Machine}
 use Rattle.fn_core.specs.declared.machine.Standing.{Standing}
-use Rattle.fn_core.specs.State.{Start, Resting, State, opened}
-use Rattle.fn_core.specs.Tree.{IsShape}
+use Rattle.fn_core.specs.State.{Start, opened}
 use Rattle.fn_core.specs.Machine.{IsStart, no_cap}
 use Rattle.fn_core.specs.Fields.{IsPlace, ArePlaces, AreStandings, Stands}
 use Rattle.fn_core.specs.Opening.{IsUnreachedAt, AreFirst, AreLevel, AreBelow, AreKind, unreached, resting}

@@ -1,7 +1,7 @@
 -- A row that was tried may be filled, by what the pass has found of the others, just where nobody blocks it.
-use Rattle.std.proofs.Common.{◌≡◌, ◌≢◌, inl, inr, ℕ, ◌+◌, ◌*◌, ◌<◌, ◌≤◌, Bool, true, false, List, [], ◌∷◌, ◌++◌, Option, Some, None, is_none, not, refl, sym, ◌∙◌, ap, subst, arith, map}
-use Rattle.std.specs.Prelude.{if◌then◌else◌, ◌==◌, ◌&&◌}
-use Rattle.std.specs.List.{range_with_len, find, filter, flat_map}
+use Rattle.std.proofs.Common.{◌≡◌, ◌≢◌, inl, inr, ℕ, ◌+◌, ◌*◌, ◌<◌, Bool, true, false, List, [], ◌∷◌, ◌++◌, Option, Some, None, is_none, not, refl, sym, ◌∙◌, ap, subst, arith}
+use Rattle.std.specs.Prelude.{if◌then◌else◌, ◌==◌}
+use Rattle.std.specs.List.{range_with_len, find}
 use Rattle.std.proofs.lemmas.Bool.{cases_eq, eq-eqb, ne_eqb, false≢true, and_from}
 use Rattle.fn_model.specs.declared.Kind.{Kind}
 use Rattle.fn_layout.specs.Tree.{pass_of}
@@ -9,8 +9,7 @@ use Rattle.fn_layout.specs.Words.{Announcement}
 use Rattle.fn_layout.proofs.Tree.{aggregator_below}
 use Rattle.fn_layout.proofs.Members.{members_are_numbered, numbers_are_members}
 use Rattle.fn_layout.proofs.Members as layout
-use Rattle.fn_rows.specs.Machine.{Lets, IsFree}
-use Rattle.fn_core.specs.declared.Move.{Move}
+use Rattle.fn_rows.specs.Machine.{Lets}
 use Rattle.fn_core.specs.declared.Move.TheVariants.{Scan}
 use Rattle.fn_core.specs.Tree.{aggregator, member, members}
 use Rattle.fn_core.specs.State.{Start, State}

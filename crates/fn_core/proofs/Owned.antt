@@ -205,9 +205,6 @@ module _ (start : Start) (ok : IsStart start) (s : State) (w : Whole start s) (c
   applies_kept kind (suc below) amount at hi low e u =
       local_kept kind below (λ m. local_step.Hand_base m s.main) (hand_stays (members start.shape (suc below) (aggregator start.shape p (suc below))) start.shape.rows (s.rows kind (suc below) (aggregator start.shape p (suc below))) (inv_at kind below) (member start.shape (suc below) p) (member_within start.shape ok.shape below p range) s.main (at, hi, e)) u
 
-  either_same : (test : Bool) (x y : State) → test ≡ true → (if test then x else y) ≡ x
-  either_same test x y e = ap (λ (t : Bool). if t then x else y) e
-
   -- an exchange that loses
   lost_owned : (step : Move) (may : May start s p step) (position : Position) → moves start s p step ≡ goes_to s p position → Owned start (moves start s p step)
   lost_owned step may position same = by_kept step may (goes_to s p position) same [] unchanged (made_goes s position) (λ u. u)

@@ -1,12 +1,12 @@
 -- What a machine that has taken a legal log knows of its passes.
-use Rattle.std.proofs.Common.{◌≡◌, inl, inr, ⊎_elim, ℕ, ◌<◌, ◌≤◌, List, sym, ◌∙◌, ap}
+use Rattle.std.proofs.Common.{◌≡◌, inl, inr, ℕ, ◌<◌, List}
 use Rattle.fn_model.specs.declared.Kind.{Kind}
 use Rattle.fn_model.specs.declared.Kind.TheVariants.{Add, Sub, Read}
 use Rattle.fn_layout.specs.Kinds.{IsFunnelled}
 use Rattle.fn_layout.specs.Words.{IsSlot}
 use Rattle.fn_core.specs.declared.Event.{Event}
 use Rattle.fn_core.specs.declared.machine.Machine.{Machine}
-use Rattle.fn_core.specs.State.{Position, Climbing, Deciding, State, opened}
+use Rattle.fn_core.specs.State.{Climbing, State, opened}
 use Rattle.fn_core.specs.Machine.{IsChange, run}
 use Rattle.fn_core.specs.Fields.{Stands}
 use Rattle.fn_core.proofs.Whole.{Whole, climbing}

@@ -10,8 +10,8 @@ use Rattle.fn_model.proofs.Histories.{descend}
 use Rattle.fn_model.proofs.Orderly.{boundary_offset}
 use Rattle.fn_core.proofs.Known.{Rides, Meets, Replied}
 
--- what holds of all arrivals holds of one of them
-All-middle : (P : Arrival → Type 0) (earlier : List Arrival) (a : Arrival) (later : List Arrival) → All P (earlier ++ a ∷ later) → P a
+-- what holds of all items holds of one of them
+pub All-middle : {X : Type 0} (P : X → Type 0) (earlier : List X) (a : X) (later : List X) → All P (earlier ++ a ∷ later) → P a
 All-middle P [] a later h = All-head P a later h
 All-middle P (x ∷ xs) a later h = All-middle P xs a later (All-tail P x (xs ++ a ∷ later) h)
 

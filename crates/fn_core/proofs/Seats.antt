@@ -94,11 +94,6 @@ module _ (m : Machine) (log : List Event) (stands : Stands m log) (pass : ℕ) (
 pub hand_few : (shape : Shape) (level index r : ℕ) → r / shape.rows < members shape level index → r < 512
 hand_few shape level index r range = omega (arith, row_few shape level index (r / shape.rows) (r % shape.rows) range (mod_below r shape.rows (omega arith)), div-add-mod' r shape.rows)
 
--- .. so the word that names one is small
-pub word_few : (shape : Shape) (level index word : ℕ) → NamesMine shape level index word → word - 1 < 2 ^ 32
-word_few shape level index word (inl none) = omega (arith, none)
-word_few shape level index word (inr (r, is, range)) = omega (arith, is, hand_few shape level index r range)
-
 -- a position tells its kind and level
 pub same_climb : (P : Kind → ℕ → Type 0) (k kind : Kind) (l level : ℕ) → Climbing k l ≡ Climbing kind level → P k l → P kind level
 same_climb P k kind l level same p =

@@ -1,11 +1,11 @@
 -- A step of a pass at its aggregator, on the fields of a machine that has taken a legal log.
-use Rattle.std.proofs.Common.{◌≡◌, inl, inr, ℕ, zero, suc, ◌<◌, ◌≤◌, List, length, set, refl, sym, ◌∙◌, ap, subst, arith, slice_index_or, vec_len}
+use Rattle.std.proofs.Common.{◌≡◌, ℕ, zero, suc, ◌<◌, List, ap, arith, slice_index_or, vec_len}
 use Rattle.std.specs.Vec.{with_item}
 use Rattle.fn_model.specs.declared.Kind.{Kind}
 use Rattle.fn_rows.specs.Aggregator.{Aggregator, Steps}
 use Rattle.fn_rows.specs.Aggregator as rows
-use Rattle.fn_rows.specs.Machine.{Step, Guard, member_of, put}
-use Rattle.fn_layout.specs.Tree.{aggregator, member, members}
+use Rattle.fn_rows.specs.Machine.{Step, member_of}
+use Rattle.fn_layout.specs.Tree.{aggregator, member}
 use Rattle.fn_layout.specs.Words.{IsSlot, aggregator_number}
 use Rattle.fn_core.specs.declared.Event.{Event}
 use Rattle.fn_core.specs.declared.machine.Machine.{Machine}

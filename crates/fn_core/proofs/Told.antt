@@ -1,33 +1,32 @@
 -- What the beginning of a call tells, and what stands after it.
-use Rattle.std.proofs.Common.{◌≡◌, ◌≢◌, inl, inr, ℕ, zero, suc, ◌+◌, ◌-◌, ◌<◌, ◌≤◌, Bool, true, false, List, [], ◌∷◌, ◌++◌, Option, Some, None, is_none, is_some, not, option_map, unwrap_or, refl, sym, ◌∙◌, ap, subst, arith, map}
+use Rattle.std.proofs.Common.{◌≡◌, inl, inr, ℕ, zero, suc, ◌+◌, ◌-◌, ◌<◌, ◌≤◌, Bool, true, false, List, [], ◌∷◌, ◌++◌, Option, Some, None, is_none, is_some, not, option_map, unwrap_or, refl, sym, ◌∙◌, ap, subst, arith}
 use Rattle.std.specs.Prelude.{if◌then◌else◌}
 use Rattle.std.specs.List.{range_with_len, find}
 use Rattle.std.proofs.lemmas.Bool.{cases_lt, false≢true}
 use Rattle.std.proofs.lemmas.List.{append-nil}
 use Rattle.fn_model.specs.declared.Kind.{Kind}
 use Rattle.fn_layout.specs.Words.{Announcement}
-use Rattle.fn_rows.specs.declared.Stage.{Stage}
 use Rattle.fn_core.specs.Batches.{has_come}
-use Rattle.fn_core.specs.declared.Event.{Event}
 use Rattle.fn_core.specs.declared.Move.{Move}
 use Rattle.fn_core.specs.declared.Move.TheVariants.{Scan}
 use Rattle.fn_core.specs.declared.answer.Blocked.{Blocked}
 use Rattle.fn_core.specs.declared.answer.CoreBegun.{CoreBegun}
 use Rattle.fn_core.specs.declared.answer.CoreBegun.TheVariants.{Waiting, NoRow}
 use Rattle.fn_core.specs.State.{Start, Climbing, Caller, State, opened, stage, next_call}
-use Rattle.fn_core.specs.Machine.{IsChange, MaySpend, run}
+use Rattle.fn_core.specs.Machine.{IsChange, MaySpend}
 use Rattle.fn_core.specs.Words.{word}
 use Rattle.fn_core.specs.Order.{lets, first_below, is_free, first_free}
 use Rattle.fn_core.specs.Tree.{aggregator, member}
 use Rattle.fn_layout.specs.Tree.{IsLevel}
-use Rattle.fn_core.specs.Begin.{up_to, others, row_end, blocks, blocker, is_open, rows_tried, has_open, row_scans, level_scans, is_full, full_level, scans, first_steps, begin_moves, blocked_by, blocked_at, begun_by, begun, events_of, scanned, IsHeld, IsBlocked, WaitsAtLeaf, spent}
+use Rattle.fn_core.specs.Begin.{row_end, blocker, is_open, rows_tried, has_open, row_scans, level_scans, is_full, full_level, scans, first_steps, begin_moves, blocked_at, begun_by, begun, events_of, scanned, IsHeld, IsBlocked, WaitsAtLeaf, spent}
 use Rattle.fn_core.specs.Calls.{CoreLog, state_in, with_moves, IsIdle}
 use Rattle.fn_core.proofs.Among.{Has, EndsIn, IsFound, found_is, all_reached, has_range, from_range, has_append_left, none_found, contains, reaches, range_ends, map_ends, flat_map_ends}
 use Rattle.fn_core.proofs.Tries.{any_found, holds_lets, not_true}
 use Rattle.fn_core.proofs.Beginning.{other_is}
+use Rattle.fn_core.proofs.FirstFree.{first_same}
 use Rattle.fn_core.proofs.Opens.{levels_tried, scan_among, IsBlocker, blocker_is, tried_same}
 use Rattle.fn_core.proofs.Pushed.{run_append, with_moves_log}
-use Rattle.fn_core.proofs.Waits.{stage_waits, caller_arrived, others_arrived, arrived_same, looked, looked_ends, looked_knows, tried, still_looked, left_by, begin_leaves}
+use Rattle.fn_core.proofs.Waits.{stage_waits, caller_arrived, arrived_same, looked, looked_ends, looked_knows, tried, still_looked, left_by, begin_leaves}
 
 -- a beginning that waits met no full level
 waits_where : (at : ℕ → Blocked) (o : Option ℕ) → begun_by (option_map at o) ≡ Waiting → o ≡ None
@@ -113,20 +112,6 @@ module _ (start : Start) (s : State) (pass : ℕ) (kind : Kind) (level : ℕ) (f
         last = (ends.0, append-nil (scans start s kind pass) ∙ ends.1 ∙ ap (λ (q : ℕ). ends.0 ++ Scan kind level q ∷ []) named);
       }
 
--- two tests that agree up to the first number of which one holds have the same first number
-below_suc : (g : ℕ → Bool) → g 0 ≡ false → (k : ℕ) → ((j : ℕ) → j < k → g (suc j) ≡ false) → (j : ℕ) → j < suc k → g j ≡ false
-below_suc g first k before zero lt = first
-below_suc g first k before (suc j) lt = before j (omega arith)
-
-first_same : (f g : ℕ → Bool) (n : ℕ) → ((k : ℕ) → k < n → ((j : ℕ) → j < k → g j ≡ false) → f k ≡ g k) → first_below f n ≡ first_below g n
-unfolding first_below
-first_same f g zero agree = refl
-first_same f g (suc n) agree = by (g 0) refl (agree 0 (omega arith) (λ j lt. absurd (omega arith))) (λ first. first_same (λ k. f (suc k)) (λ k. g (suc k)) n (λ k lt before. agree (suc k) (omega arith) (below_suc g first k before)))
-  where
-    by : (b : Bool) → g 0 ≡ b → f 0 ≡ g 0 → (g 0 ≡ false → first_below (λ k. f (suc k)) n ≡ first_below (λ k. g (suc k)) n) → (if f 0 then 0 else suc (first_below (λ k. f (suc k)) n)) ≡ (if g 0 then 0 else suc (first_below (λ k. g (suc k)) n))
-    by true is same rest = ap (λ (b : Bool). if b then 0 else suc (first_below (λ k. f (suc k)) n)) (same ∙ is) ∙ sym (ap (λ (b : Bool). if b then 0 else suc (first_below (λ k. g (suc k)) n)) is)
-    by false is same rest = ap (λ (b : Bool). if b then 0 else suc (first_below (λ k. f (suc k)) n)) (same ∙ is) ∙ ap suc (rest is) ∙ sym (ap (λ (b : Bool). if b then 0 else suc (first_below (λ k. g (suc k)) n)) is)
-
 -- after a beginning
 module _ (old new : CoreLog) (pass : ℕ) (range : pass < old.start.shape.passes) (kind : Kind) (change : IsChange kind) (amount : ℕ) (rests : IsIdle old pass) (taken : new ≡ with_moves old pass (begin_moves old.start (state_in old) pass kind amount)) (told : CoreBegun) (told_is : told ≡ begun old.start (state_in old) pass kind) where
   abbrev s : State
@@ -164,13 +149,6 @@ module _ (old new : CoreLog) (pass : ℕ) (range : pass < old.start.shape.passes
         ap (λ (c : Caller). c.last) arrived ∙ ap (λ (f : ℕ → Caller). record { pass = pass; number = (f pass).made; kind = kind; amount = amount }) callers_looked,
         ap (λ (c : Caller). c.made) arrived ∙ ap (λ (c : Caller). suc c.made) same,
       )
-
-  pub after_others : (other : ℕ) → other ≢ pass → (state_in new).callers other ≡ s.callers other
-  after_others other apart = by (full_level old.start s kind pass) refl
-    where
-      by : (o : Option ℕ) → full_level old.start s kind pass ≡ o → (state_in new).callers other ≡ s.callers other
-      by None is = holds_after (λ start t. t.callers other ≡ s.callers other) None is (others_arrived old.start (looked old.start s pass range kind change amount rests) pass range kind change amount other apart ∙ ap (λ (f : ℕ → Caller). f other) callers_looked)
-      by (Some level) is = holds_after (λ start t. t.callers other ≡ s.callers other) (Some level) is (ap (λ (f : ℕ → Caller). f other) callers_looked)
 
   refusing : (at : Blocked) → told ≡ NoRow at → (level : ℕ) × (full_level old.start s kind pass ≡ Some level) × (blocked_at old.start s kind pass level ≡ at)
   refusing at is = refused_where (blocked_at old.start s kind pass) (full_level old.start s kind pass) at (sym told_is ∙ is)

@@ -1,8 +1,8 @@
 -- How a beginning goes through passes, rows and levels, up to the first of which a test holds.
-use Rattle.std.proofs.Common.{◌≡◌, ◌≢◌, ◌↔◌, inl, inr, ◌⊎◌, ℕ, zero, suc, ◌+◌, ◌-◌, ◌<◌, ◌≤◌, Bool, true, false, List, [], ◌∷◌, ◌++◌, IsTrue, refl, sym, ◌∙◌, ap, subst, arith, append_assoc, Option, Some, None, cond, not, is_some, is_none, option_map, unwrap_or, map}
+use Rattle.std.proofs.Common.{◌≡◌, ◌≢◌, ◌↔◌, inl, inr, ℕ, suc, ◌+◌, ◌-◌, ◌<◌, ◌≤◌, Bool, true, false, List, [], ◌∷◌, ◌++◌, IsTrue, refl, sym, ◌∙◌, ap, subst, arith, append_assoc, Option, Some, None, cond, not, is_some, is_none, option_map, unwrap_or, map}
 use Rattle.std.specs.Prelude.{if◌then◌else◌, ◌==◌, ◌||◌, nat_lt}
 use Rattle.std.specs.List.{range_with_len, filter, find, list_any, flat_map}
-use Rattle.std.proofs.lemmas.Bool.{cases_eq, eqb-true, eq-eqb, ltb-true, lt-ltb, ne_eqb, false≢true, or_cases, or_left, or_right}
+use Rattle.std.proofs.lemmas.Bool.{eqb-true, eq-eqb, ltb-true, lt-ltb, ne_eqb, false≢true, or_cases, or_left, or_right}
 use Rattle.std.proofs.lemmas.List.{map-append, append-nil}
 use Rattle.fn_model.specs.declared.Kind.{Kind}
 use Rattle.fn_rows.specs.Machine.{Lets}
@@ -32,9 +32,6 @@ pub filter_skips : (test : ℕ → Bool) (i n : ℕ) → i < n → test i ≡ fa
 filter_skips test i n lt is =
     let rest : List ℕ = filter test (range_with_len (i + 1) (n - (i + 1))) in
     ap (filter test) (range_step i n lt) ∙ ap (λ (b : Bool). cond b (i ∷ rest) rest) is
-
-pub filter_ends : (test : ℕ → Bool) (i n : ℕ) → n ≤ i → filter test (range_with_len i (n - i)) ≡ []
-filter_ends test i n le = ap (filter test) (range_end i n le)
 
 -- a test holds of some item where the first of which it holds is found
 pub any_found : (test : ℕ → Bool) (xs : List ℕ) → list_any test xs ≡ is_some (find test xs)
@@ -80,9 +77,6 @@ pub record Goes (out : List ℕ → List Event) (test : ℕ → Bool) (old now :
 
 pub goes_on_same : (out : List ℕ → List Event) (test : ℕ → Bool) (old now : List Event) (rest left all : List ℕ) → rest ≡ left → Goes out test old now rest all → Goes out test old now left all
 goes_on_same out test old now rest left all same goes = subst (λ (xs : List ℕ). Goes out test old now xs all) same goes
-
-pub goes_start : (out : List ℕ → List Event) (test : ℕ → Bool) (old : List Event) (rest all : List ℕ) → rest ≡ all → Goes out test old old rest all
-goes_start out test old rest all same = record { steps = ap (λ (xs : List ℕ). old ++ out (up_to test xs)) same; found = ap (find test) same }
 
 module _ (out : List ℕ → List Event) (go : ℕ → List Event) (more : (x : ℕ) (xs : List ℕ) → out (x ∷ xs) ≡ go x ++ out xs) (none : out [] ≡ []) (test : ℕ → Bool) (old now : List Event) (rest all : List ℕ) (goes : Goes out test old now rest all) where
   at_hand : (x : ℕ) (left : List ℕ) → rest ≡ x ∷ left → (b : Bool) → test x ≡ b → now ++ (go x ++ out (if b then [] else up_to test left)) ≡ old ++ out (up_to test all)

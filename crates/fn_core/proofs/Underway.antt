@@ -7,14 +7,14 @@ use Rattle.fn_model.specs.declared.Kind.TheVariants as kinds
 use Rattle.fn_rows.specs.declared.Field.{Field}
 use Rattle.fn_rows.specs.declared.Stage.TheVariants.{Shut}
 use Rattle.fn_rows.specs.Machine as local_step
-use Rattle.fn_rows.specs.Trace.{Traced, traced}
+use Rattle.fn_rows.specs.Trace.{traced}
 use Rattle.fn_core.specs.Batches.{has_come}
 use Rattle.fn_core.specs.declared.Purpose.TheVariants as purpose
 use Rattle.fn_core.specs.declared.Move.{Move}
 use Rattle.fn_core.specs.declared.Move.TheVariants.{Scan, See, Announce, Arrive, Look, Close, Apply, Head, Fill, Point, Publish, Peek, Leave, Load, Exchange, Direct, Glance}
 use Rattle.fn_core.specs.Tree.{aggregator, member}
-use Rattle.fn_core.specs.State.{Start, Position, Resting, Trying, Climbing, Deciding, State, stage, local, goes_to, reply_of}
-use Rattle.fn_core.specs.Machine.{IsStart, May, Climbs, moves, makes, applies, applied_by, filled_by, peeked_by, loaded_by, exchanged_by, fills, local_row, word_of}
+use Rattle.fn_core.specs.State.{Start, Position, Resting, Climbing, Deciding, State, stage, local, goes_to, reply_of}
+use Rattle.fn_core.specs.Machine.{IsStart, May, Climbs, moves, applies, applied_by, filled_by, peeked_by, loaded_by, exchanged_by, fills, local_row, word_of}
 use Rattle.fn_core.specs.Laws.{IsUnderway}
 use Rattle.fn_core.specs.Positions.{IsClimbing}
 use Rattle.fn_core.proofs.Whole.{Whole, stages_of, FitsAt, climbing}

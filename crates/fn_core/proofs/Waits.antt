@@ -1,5 +1,5 @@
 -- The steps of a call's beginning may be taken, and where each level has an open row the call waits at its leaf then.
-use Rattle.std.proofs.Common.{◌≡◌, ◌≢◌, inl, inr, ℕ, zero, suc, ◌+◌, ◌-◌, ◌*◌, ◌<◌, ◌≤◌, Bool, true, false, List, [], ◌∷◌, ◌++◌, Option, Some, None, is_none, is_some, not, refl, sym, ◌∙◌, ap, subst, arith, map}
+use Rattle.std.proofs.Common.{◌≡◌, inl, ℕ, ◌+◌, ◌*◌, ◌<◌, ◌≤◌, true, List, [], ◌++◌, Option, Some, None, is_none, refl, sym, ◌∙◌, ap, subst, arith}
 use Rattle.std.specs.Prelude.{if◌then◌else◌, ◌==◌}
 use Rattle.std.specs.List.{range_with_len, find}
 use Rattle.std.proofs.lemmas.List.{map-append}
@@ -10,14 +10,14 @@ use Rattle.fn_rows.specs.Machine.{put, announce_by}
 use Rattle.fn_rows.specs.Trace.{Traced, traced}
 use Rattle.fn_rows.specs.declared.Stage.{Stage}
 use Rattle.fn_rows.specs.declared.Stage.TheVariants.{Saw, Told, Waiting}
-use Rattle.fn_rows.proofs.Put.{put_here, put_there}
+use Rattle.fn_rows.proofs.Put.{put_here}
 use Rattle.fn_core.specs.declared.Event.{Event}
 use Rattle.fn_core.specs.declared.Move.{Move}
 use Rattle.fn_core.specs.declared.Move.TheVariants.{See, Announce, Arrive}
 use Rattle.fn_core.specs.Tree.{aggregator, member}
-use Rattle.fn_core.specs.State.{Start, Position, Resting, Climbing, Caller, State, stage, after_call, next_call}
+use Rattle.fn_core.specs.State.{Start, Resting, Climbing, Caller, State, stage, after_call, next_call}
 use Rattle.fn_core.specs.Machine.{IsChange, MaySpend, HasFreeRow, place, moves, Legal, run}
-use Rattle.fn_core.specs.Begin.{is_open, rows_tried, has_open, is_full, full_level, scans, first_steps, begin_moves, events_of, scanned, others, blocks, row_end}
+use Rattle.fn_core.specs.Begin.{is_open, has_open, is_full, full_level, scans, first_steps, begin_moves, events_of, others, blocks, row_end}
 use Rattle.fn_core.specs.Order.{is_free}
 use Rattle.fn_core.proofs.Places.{put_at_here, put_at_case}
 use Rattle.fn_core.proofs.FirstFree.{is_free_means}
@@ -81,9 +81,6 @@ module _ (start : Start) (s : State) (pass : ℕ) (range : pass < start.shape.pa
       (subst (λ (g : Stage). ((announce_by t.state m g).end ≡ t.end) × ((announce_by t.state m g).found ≡ t.found)) (sym stage_saw) (refl, refl)) k l i (refl, refl) in
       let c = put_at_case (λ k l i x. (x.end ≡ (told.rows k l i).end) × (x.found ≡ (told.rows k l i).found)) told.rows kind 1 index (traced (place start told kind 1 pass) (local_step.Arrive m amount)) (refl, refl) k l i (refl, refl) in
       (c.0 ∙ b.0 ∙ a.0, c.1 ∙ b.1 ∙ a.1)
-
-  pub others_arrived : (q : ℕ) → q ≢ pass → arrived.callers q ≡ s.callers q
-  others_arrived q other = put_there told.callers pass (after_call (told.callers pass) (next_call told pass kind amount)) q other ∙ put_there s.callers pass (record (s.callers pass) { position = Climbing kind 1 }) q other
 
   pub first_steps_happen : (s.callers pass).position ≡ Resting → MaySpend s pass amount → ((level : ℕ) → 1 ≤ level → level ≤ start.shape.levels → HasFreeRow start s kind level pass) → Legal start (events_of pass (first_steps kind amount)) s
   first_steps_happen rests spend free =

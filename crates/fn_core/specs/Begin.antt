@@ -1,7 +1,9 @@
 -- How a call begins: which rows it tries at each level, which passes it scans for them, and when it is refused.
---     scanned start s kind level pass n      the passes that are scanned for the pass's n-th row
---     is_open start s kind level pass n      no announcement keeps the row from being filled
---     begin_moves start s pass kind amount      the steps by which the call begins
+--     Finds      what a beginning goes by at a level: the ends of the pass's rows, and what each scan found
+--     scanned_by shape level pass words end      the passes that are scanned for a row
+--     is_open_by shape level pass finds n      no announcement keeps the row from being filled
+--     begin_moves_by shape pass kind amount finds      the steps by which the call begins
+--     is_open, begin_moves ..      the same in one state, where nobody comes between
 --     begun start s pass kind      what its beginning answers
 --     IsBlocked start s pass kind moves at      why it is refused
 --     WaitsAtLeaf core pass kind      the pass's call waits at its leaf
@@ -42,57 +44,102 @@ others shape level pass = filter (is_other shape level pass) (range_with_len 0 s
 abbrev pub row_end : Start → State → Kind → ℕ → ℕ → ℕ → ℕ
 row_end start s kind level pass n = (place start s kind level pass).end (member start.shape level pass * start.shape.rows + n)
 
--- whether the announcement of another pass keeps a row with this end from being filled again
-abbrev pub blocks : Start → State → Kind → ℕ → ℕ → ℕ → Bool
-blocks start s kind level end q = not (lets (Some (word start s (Announcement q kind level))) end)
+-- whether the announcement of another pass, of these words, keeps a row with this end from being filled again
+abbrev pub blocks_by : (ℕ → ℕ) → ℕ → ℕ → Bool
+blocks_by words end q = not (lets (Some (words q)) end)
 
 -- the first other pass that blocks a row with this end; a row that was never filled has end 0, and nobody blocks it
-abbrev pub blocker : Start → State → Kind → ℕ → ℕ → ℕ → Option ℕ
-blocker start s kind level pass end = if end == 0 then None else find (blocks start s kind level end) (others start.shape level pass)
+abbrev pub blocker_by : Shape → ℕ → ℕ → (ℕ → ℕ) → ℕ → Option ℕ
+blocker_by shape level pass words end = if end == 0 then None else find (blocks_by words end) (others shape level pass)
 
 -- the passes that are scanned for a row with this end: none where it was never filled, else the others up to the first that blocks it
-abbrev pub scanned : Start → State → Kind → ℕ → ℕ → ℕ → List ℕ
-scanned start s kind level pass end = if end == 0 then [] else up_to (blocks start s kind level end) (others start.shape level pass)
+abbrev pub scanned_by : Shape → ℕ → ℕ → (ℕ → ℕ) → ℕ → List ℕ
+scanned_by shape level pass words end = if end == 0 then [] else up_to (blocks_by words end) (others shape level pass)
+
+-- What a beginning goes by at a level: the end of each of the pass's rows, and for each row that it tries what the announcement of each pass was found to be
+pub record Finds : Type 0 where
+  pub ends : ℕ → ℕ
+  pub words : ℕ → ℕ → ℕ
 
 -- whether nobody blocks the pass's n-th row
-abbrev pub is_open : Start → State → Kind → ℕ → ℕ → ℕ → Bool
-is_open start s kind level pass n = is_none (blocker start s kind level pass (row_end start s kind level pass n))
+abbrev pub is_open_by : Shape → ℕ → ℕ → Finds → ℕ → Bool
+is_open_by shape level pass finds n = is_none (blocker_by shape level pass (finds.words n) (finds.ends n))
 
 -- the rows that are tried at a level: up to the first open one
-abbrev pub rows_tried : Start → State → Kind → ℕ → ℕ → List ℕ
-rows_tried start s kind level pass = up_to (is_open start s kind level pass) (range_with_len 0 start.shape.rows)
+abbrev pub rows_tried_by : Shape → ℕ → ℕ → Finds → List ℕ
+rows_tried_by shape level pass finds = up_to (is_open_by shape level pass finds) (range_with_len 0 shape.rows)
 
 -- whether a level has an open row
-abbrev pub has_open : Start → State → Kind → ℕ → ℕ → Bool
-has_open start s kind pass level = list_any (is_open start s kind level pass) (range_with_len 0 start.shape.rows)
+abbrev pub has_open_by : Shape → ℕ → ℕ → Finds → Bool
+has_open_by shape level pass finds = list_any (is_open_by shape level pass finds) (range_with_len 0 shape.rows)
 
 -- the scans for one row
-abbrev pub row_scans : Start → State → Kind → ℕ → ℕ → ℕ → List Move
-row_scans start s kind level pass n = map (λ q. Scan kind level q) (scanned start s kind level pass (row_end start s kind level pass n))
+abbrev pub row_scans_by : Shape → Kind → ℕ → ℕ → Finds → ℕ → List Move
+row_scans_by shape kind level pass finds n = map (λ q. Scan kind level q) (scanned_by shape level pass (finds.words n) (finds.ends n))
 
 -- .. and at a level
-abbrev pub level_scans : Start → State → Kind → ℕ → ℕ → List Move
-level_scans start s kind pass level = flat_map (row_scans start s kind level pass) (rows_tried start s kind level pass)
+abbrev pub level_scans_by : Shape → Kind → ℕ → Finds → ℕ → List Move
+level_scans_by shape kind pass finds level = flat_map (row_scans_by shape kind level pass finds) (rows_tried_by shape level pass finds)
 
 -- whether a level has no open row
-abbrev pub is_full : Start → State → Kind → ℕ → ℕ → Bool
-is_full start s kind pass level = not (has_open start s kind pass level)
+abbrev pub is_full_by : Shape → ℕ → (ℕ → Finds) → ℕ → Bool
+is_full_by shape pass finds level = not (has_open_by shape level pass (finds level))
 
 -- the first level without an open row
-abbrev pub full_level : Start → State → Kind → ℕ → Option ℕ
-full_level start s kind pass = find (is_full start s kind pass) (range_with_len 1 start.shape.levels)
+abbrev pub full_level_by : Shape → ℕ → (ℕ → Finds) → Option ℕ
+full_level_by shape pass finds = find (is_full_by shape pass finds) (range_with_len 1 shape.levels)
 
 -- all scans: at each level, up to the first without an open row
-abbrev pub scans : Start → State → Kind → ℕ → List Move
-scans start s kind pass = flat_map (level_scans start s kind pass) (up_to (is_full start s kind pass) (range_with_len 1 start.shape.levels))
+abbrev pub scans_by : Shape → Kind → ℕ → (ℕ → Finds) → List Move
+scans_by shape kind pass finds = flat_map (λ level. level_scans_by shape kind pass (finds level) level) (up_to (is_full_by shape pass finds) (range_with_len 1 shape.levels))
 
 -- a call's first three steps at its leaf
 abbrev pub first_steps : Kind → ℕ → List Move
 first_steps kind amount = See kind 1 ∷ Announce kind 1 ∷ Arrive kind 1 amount ∷ []
 
 -- the steps by which a call begins: its scans, and where each level has an open row its first three steps at its leaf
+abbrev pub begin_moves_by : Shape → ℕ → Kind → ℕ → (ℕ → Finds) → List Move
+begin_moves_by shape pass kind amount finds = scans_by shape kind pass finds ++ (if is_none (full_level_by shape pass finds) then first_steps kind amount else [])
+
+-- In one state: what a beginning finds at a level, where nobody comes between
+abbrev pub finds_in : Start → State → Kind → ℕ → ℕ → Finds
+finds_in start s kind pass level = record { ends = λ n. row_end start s kind level pass n; words = λ n q. word start s (Announcement q kind level) }
+
+abbrev pub blocks : Start → State → Kind → ℕ → ℕ → ℕ → Bool
+blocks start s kind level end q = blocks_by (λ x. word start s (Announcement x kind level)) end q
+
+abbrev pub blocker : Start → State → Kind → ℕ → ℕ → ℕ → Option ℕ
+blocker start s kind level pass end = blocker_by start.shape level pass (λ x. word start s (Announcement x kind level)) end
+
+abbrev pub scanned : Start → State → Kind → ℕ → ℕ → ℕ → List ℕ
+scanned start s kind level pass end = scanned_by start.shape level pass (λ x. word start s (Announcement x kind level)) end
+
+abbrev pub is_open : Start → State → Kind → ℕ → ℕ → ℕ → Bool
+is_open start s kind level pass n = is_open_by start.shape level pass (finds_in start s kind pass level) n
+
+abbrev pub rows_tried : Start → State → Kind → ℕ → ℕ → List ℕ
+rows_tried start s kind level pass = rows_tried_by start.shape level pass (finds_in start s kind pass level)
+
+abbrev pub has_open : Start → State → Kind → ℕ → ℕ → Bool
+has_open start s kind pass level = has_open_by start.shape level pass (finds_in start s kind pass level)
+
+abbrev pub row_scans : Start → State → Kind → ℕ → ℕ → ℕ → List Move
+row_scans start s kind level pass n = row_scans_by start.shape kind level pass (finds_in start s kind pass level) n
+
+abbrev pub level_scans : Start → State → Kind → ℕ → ℕ → List Move
+level_scans start s kind pass level = level_scans_by start.shape kind pass (finds_in start s kind pass level) level
+
+abbrev pub is_full : Start → State → Kind → ℕ → ℕ → Bool
+is_full start s kind pass level = is_full_by start.shape pass (finds_in start s kind pass) level
+
+abbrev pub full_level : Start → State → Kind → ℕ → Option ℕ
+full_level start s kind pass = full_level_by start.shape pass (finds_in start s kind pass)
+
+abbrev pub scans : Start → State → Kind → ℕ → List Move
+scans start s kind pass = scans_by start.shape kind pass (finds_in start s kind pass)
+
 abbrev pub begin_moves : Start → State → ℕ → Kind → ℕ → List Move
-begin_moves start s pass kind amount = scans start s kind pass ++ (if is_none (full_level start s kind pass) then first_steps kind amount else [])
+begin_moves start s pass kind amount = begin_moves_by start.shape pass kind amount (finds_in start s kind pass)
 
 -- the load by which another pass blocks a row
 abbrev pub blocked_by : Start → State → Kind → ℕ → ℕ → ℕ → Blocked

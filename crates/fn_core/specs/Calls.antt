@@ -7,7 +7,7 @@
 --     left_of core pass      what a pass has left of its allowance
 --     LeavesOthers old new pass      every other pass stands as before
 --     own_moves cap kind amount      the steps of a call that goes to the main word by itself
-use Rattle.std.specs.Prelude.{◌≡◌, ◌≢◌, ◌⊎◌, ℕ, zero, suc, ◌+◌, ◌^◌, ◌<◌, List, [], ◌∷◌, ◌++◌, Option, Some, None, ◌==◌, nat_le, nat_lt, if◌then◌else◌, sum}
+use Rattle.std.specs.Prelude.{◌≡◌, ◌≢◌, ◌⊎◌, ℕ, zero, suc, ◌+◌, ◌*◌, ◌^◌, ◌<◌, ◌≤◌, List, [], ◌∷◌, ◌++◌, Option, Some, None, ◌==◌, nat_le, nat_lt, if◌then◌else◌, sum}
 use Rattle.fn_model.specs.declared.Call.{Call}
 use Rattle.fn_model.specs.declared.Kind.{Kind}
 use Rattle.fn_model.specs.declared.Kind.TheVariants.{Add, Sub, Read}
@@ -24,12 +24,9 @@ use Rattle.fn_core.specs.declared.answer.Answer.TheVariants as answers
 use Rattle.fn_core.specs.declared.answer.OpenFault.{OpenFault}
 use Rattle.fn_core.specs.declared.answer.OpenFault.TheVariants.{TooMuch, NoMemory, AboveCap}
 use Rattle.fn_core.specs.declared.answer.Why.TheVariants.{Behind, Lost}
-use Rattle.fn_core.specs.declared.answer.CoreBegun.{CoreBegun}
-use Rattle.fn_core.specs.declared.answer.CoreBegun.TheVariants as begun_as
-use Rattle.fn_core.specs.declared.answer.CoreBegun.TheVariants.{NoRow}
 use Rattle.fn_core.specs.declared.answer.CoreStep.{CoreStep}
 use Rattle.fn_core.specs.declared.answer.CoreStep.TheVariants.{Going, Ready, NotYet}
-use Rattle.fn_core.specs.State.{Start, Position, Resting, State, opened, history_in, stage, reply_of, next_call}
+use Rattle.fn_core.specs.State.{Start, Resting, State, opened, history_in, stage, reply_of, next_call}
 use Rattle.fn_core.specs.Machine.{no_cap, IsStart, Legal, MaySpend, run}
 use Rattle.fn_core.specs.Order.{next_move}
 use Rattle.fn_core.specs.Bound.{steps_left}
@@ -92,11 +89,6 @@ left_of core pass = ((state_in core).callers pass).left
 abbrev pub LeavesOthers : CoreLog → CoreLog → ℕ → Type 0
 LeavesOthers old new pass = (q : ℕ) → q ≢ pass → ((state_in new).callers q ≡ (state_in old).callers q) × (HasCall old q → HasCall new q)
 
--- a call that waits has spent its amount, and one that was refused has spent nothing
-abbrev pub Spends : CoreLog → CoreLog → ℕ → ℕ → CoreBegun → Type 0
-Spends old new pass amount begun_as.Waiting = left_of new pass + amount ≡ left_of old pass
-Spends old new pass amount (NoRow blocked) = left_of new pass ≡ left_of old pass
-
 -- where the pass stands as it looks or leaves
 abbrev pub stage_for : Start → State → ℕ → Move → Stage
 stage_for start s pass (Look kind level) = stage start s kind level pass
@@ -139,6 +131,11 @@ HasJoined old new pass = (earlier later : List Event) → old.log ≡ earlier ++
 -- the pass's call has fewer steps left
 abbrev pub HasFewerLeft : CoreLog → CoreLog → ℕ → Type 0
 HasFewerLeft old new pass = (n : ℕ) → HoldsRows old.start pass n → steps_left new.start (state_in new) pass n < steps_left old.start (state_in old) pass n
+
+-- the pass's call has at most levels * (2 * n + 14) steps left, where no aggregator on its way has more than n rows; and just 8 a level where it comes to an exchange, so it comes to one at most until it is answered
+abbrev pub HasFewLeft : CoreLog → ℕ → Type 0
+HasFewLeft core pass = (n : ℕ) → HoldsRows core.start pass n → let left = steps_left core.start (state_in core) pass n in
+    (left ≤ core.start.shape.levels * (2 * n + 14)) × ((kind : Kind) (amount : ℕ) → next_move core.start (state_in core) pass ≡ Exchange kind amount → left ≡ 8 * core.start.shape.levels)
 
 -- what holds after a step that tells this
 abbrev pub Follows : CoreLog → CoreLog → ℕ → CoreStep → Type 0

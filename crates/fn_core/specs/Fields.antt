@@ -3,14 +3,14 @@
 --     Stands machine log      the machine has taken these events from its start
 --     answer_of start s pass step      what the step finds, or how its exchange ends
 --     MayTake machine pass step, Takes old new pass step answer      what a step needs of the machine, and what it does
-use Rattle.std.specs.Prelude.{◌≡◌, ◌≢◌, ℕ, Option, None, ◌*◌, ◌<◌, ◌==◌, List, [], ◌∷◌, length, Some, slice_get, if◌then◌else◌}
+use Rattle.std.specs.Prelude.{◌≡◌, ◌≢◌, ℕ, Option, None, ◌<◌, ◌==◌, List, Some, slice_get, if◌then◌else◌}
 use Rattle.fn_model.specs.declared.Kind.{Kind}
 use Rattle.fn_rows.specs.Aggregator.{Aggregator, state_of}
 use Rattle.fn_rows.specs.declared.Stage.{Stage}
 use Rattle.fn_rows.specs.Trace.{Traced}
 use Rattle.fn_layout.specs.declared.shape.Shape.{Shape}
 use Rattle.fn_layout.specs.Tree.{members}
-use Rattle.fn_layout.specs.Words.{IsAggregator, aggregators, aggregator_number}
+use Rattle.fn_layout.specs.Words.{IsAggregator, aggregator_number}
 use Rattle.fn_core.specs.declared.Event.{Event}
 use Rattle.fn_core.specs.declared.Move.{Move}
 use Rattle.fn_core.specs.declared.Move.TheVariants.{Announce, Fill, Point, Publish, Leave, Exchange}

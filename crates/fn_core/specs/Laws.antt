@@ -1,5 +1,5 @@
 -- What holds after every legal log.
-use Rattle.std.specs.Prelude.{◌≡◌, ◌≢◌, ◌⊎◌, ℕ, suc, ◌+◌, ◌/◌, ◌<◌, ◌≤◌, ◌^◌, ⊤, List, [], ◌∷◌, ◌++◌, length, get_or, sum, Some, true, ◌*◌}
+use Rattle.std.specs.Prelude.{◌≡◌, ◌≢◌, ◌⊎◌, ℕ, zero, suc, ◌+◌, ◌/◌, ◌<◌, ◌≤◌, ◌^◌, ⊤, List, [], ◌∷◌, ◌++◌, length, get_or, sum, Some, true, ◌*◌}
 use Rattle.fn_model.specs.declared.Call.{Call}
 use Rattle.fn_model.specs.declared.Kind.{Kind}
 use Rattle.fn_model.specs.Calls.{count, place, own}
@@ -10,7 +10,7 @@ use Rattle.fn_model.specs.Order.{AreConsecutive, batches_of}
 use Rattle.fn_rows.specs.declared.Stage.TheVariants.{Waiting, Got}
 use Rattle.fn_rows.specs.Law.{IsLawful, IsIn, row_in_hand}
 use Rattle.fn_core.specs.declared.Purpose.TheVariants as purpose
-use Rattle.fn_core.specs.declared.Move.TheVariants.{Scan, Look, Apply, Publish, Leave, Load, Exchange, Direct}
+use Rattle.fn_core.specs.declared.Move.TheVariants.{Scan, See, Look, Apply, Publish, Leave, Load, Exchange, Direct}
 use Rattle.fn_core.specs.declared.Move.{Move}
 use Rattle.fn_core.specs.declared.Event.{Event}
 use Rattle.fn_core.specs.Tree.{parent, aggregator, member, members}
@@ -23,6 +23,7 @@ use Rattle.fn_core.specs.Steps.{IsStepOf, main_after, loaded}
 use Rattle.fn_core.specs.Bound.{steps_left}
 use Rattle.fn_core.specs.Order.{first_free, next_move}
 use Rattle.fn_core.specs.Words.{row_there}
+use Rattle.fn_core.specs.Words.{own as own_words}
 use Rattle.fn_core.specs.Positions.{Fits}
 use Rattle.fn_core.specs.Filling.{FillsAt}
 use Rattle.fn_core.specs.Batches.{has_come, IsContiguous}
@@ -86,12 +87,13 @@ BatchesFollow = Always (λ start s.
     × ((kind : Kind) (index : ℕ) → AreConsecutive index 0 (batches_of kind s.steps))
     × IsContiguous start s)
 
--- nothing of a member changes from one state of its aggregator to another: its stage, its announcement, what its scans found, and the ends of its rows
+-- nothing of a member changes from one state of its aggregator to another: its stage, its announcement, what its scans found, the ends of its rows, and which rows it has had in hand
 pub record IsUntouched (rows : ℕ) (old new : Traced) (m : ℕ) : Type 0 where
   pub stage : new.stage m ≡ old.stage m
   pub announced : new.announced m ≡ old.announced m
   pub found : new.found m ≡ old.found m
   pub ends : (r : ℕ) → r / rows ≡ m → new.end r ≡ old.end r
+  pub walk : new.walk m ≡ old.walk m
 
 -- nothing of a pass changes from one state to another
 pub record IsLeftAlone (start : Start) (old new : State) (pass : ℕ) : Type 0 where
@@ -147,6 +149,10 @@ EventsAreSteps = Always (λ start s. (event : Event) → Allowed start s event
 abbrev pub GuardsStay : Type 0
 GuardsStay = Always (λ start s. (event other : Event) → Allowed start s event → Allowed start s other → other.pass ≢ event.pass → Allowed start (effect start s event) other)
 
+-- the next step of a call is told by what is the pass's own, so it stays the same until the pass takes it
+abbrev pub NextIsOwn : Type 0
+NextIsOwn = (start : Start) (s t : State) (pass : ℕ) → own_words start t pass ≡ own_words start s pass → next_move start t pass ≡ next_move start s pass
+
 -- the row is one of the pass's at its aggregator of this kind and level, and may be filled
 abbrev pub IsFreeFor : Start → State → ℕ → Kind → ℕ → ℕ → Type 0
 IsFreeFor start s pass kind level r =
@@ -195,9 +201,14 @@ abbrev pub StepsRunOut : Type 0
 StepsRunOut = Always (λ start s. (event : Event) (n : ℕ) → Allowed start s event → HoldsRows start event.pass n → IsInCall s event.pass
     → (steps_left start (effect start s event) event.pass n < steps_left start s event.pass n) ⊎ (IsBehind start s event ⊎ HasLost s event))
 
--- and a call that has arrived at its leaf has at most this many left
+-- a call has at most this many steps left, and exactly 8 a level at each exchange; so the steps up to an answer, each of which leaves fewer, have at most one exchange
 abbrev pub CallsAreShort : Type 0
-CallsAreShort = Always (λ start s. (pass n at : ℕ) (kind : Kind) → (s.callers pass).position ≡ Climbing kind 1 → stage start s kind 1 pass ≡ Waiting at → steps_left start s pass n ≤ start.shape.levels * (2 * n + 14))
+CallsAreShort = Always (λ start s. (pass n : ℕ) → IsInCall s pass
+    → (steps_left start s pass n ≤ start.shape.levels * (2 * n + 14)) × ((kind : Kind) (level word : ℕ) → (s.callers pass).position ≡ Deciding kind level word → steps_left start s pass n ≡ 8 * start.shape.levels))
+
+-- an event leaves the steps that the call of any other pass has left
+abbrev pub OthersCostNothing : Type 0
+OthersCostNothing = Always (λ start s. (event : Event) → Allowed start s event → (other n : ℕ) → other ≢ event.pass → steps_left start (effect start s event) other n ≡ steps_left start s other n)
 
 -- the row that a late call has in hand has its number in the layout, so that the next Peek can name it
 abbrev pub RowsHaveNames : Type 0
@@ -208,6 +219,21 @@ RowsHaveNames = Always (λ start s. (pass : ℕ) (kind : Kind) (level r : ℕ) �
 abbrev pub FreeRowsAreFound : Type 0
 FreeRowsAreFound = (start : Start) (s : State) (kind : Kind) (level pass : ℕ)
     → (HasFreeRow start s kind level pass → first_free start s kind level pass < start.shape.rows) × (first_free start s kind level pass < start.shape.rows → HasFreeRow start s kind level pass)
+
+-- the move is the first of a call of this kind
+abbrev pub Begins : Move → Kind → Type 0
+Begins (See k (suc zero)) kind = k ≡ kind
+Begins _ kind = ⊥
+
+-- the pass begins no call of this kind by these events
+abbrev pub BeginsNone : ℕ → Kind → List Event → Type 0
+BeginsNone pass kind [] = ⊤
+BeginsNone pass kind (event ∷ later) = (event.pass ≡ pass → Begins event.step kind → ⊥) × BeginsNone pass kind later
+
+-- where a call may still come to fill a row at a level, its first free row there is the one that was first at each moment since it began: the row that it fills is the one that its beginning chose
+abbrev pub ChosenRowsStay : Type 0
+ChosenRowsStay = Always (λ start s. (later : List Event) → Legal start later s → (pass : ℕ) (kind : Kind) (level : ℕ) → 1 ≤ level → level ≤ start.shape.levels → BeginsNone pass kind later
+    → let next = run start later s in FillsAt (λ k l. stage start next k l pass) (next.callers pass).position kind level → first_free start next kind level pass ≡ first_free start s kind level pass)
 
 -- a call keeps a free row at each level at which it may come to fill one
 abbrev pub CallsKeepRows : Type 0

@@ -3,6 +3,7 @@ pub mod State
 pub mod Machine
 pub mod Batches
 pub mod Laws
+pub mod Trees
 pub mod Words
 pub mod Fields
 pub mod After
@@ -13,4 +14,5 @@ pub mod Positions
 pub mod Bound
 pub mod Filling
 pub mod Calls
+pub mod Polls
 pub mod Opening

@@ -6,7 +6,7 @@ use Rattle.fn_model.specs.declared.Kind.{Kind}
 use Rattle.fn_rows.specs.Aggregator.{Aggregator}
 use Rattle.fn_rows.specs.Trace.{Traced, nothing}
 use Rattle.fn_layout.specs.declared.shape.Shape.{Shape}
-use Rattle.fn_layout.specs.Tree.{width, first_widths, IsLevel}
+use Rattle.fn_layout.specs.Tree.{width, first_widths}
 use Rattle.fn_core.specs.declared.machine.Standing.{Standing}
 use Rattle.fn_core.specs.State.{Resting}
 use Rattle.fn_core.specs.Fields.{IsPlace}

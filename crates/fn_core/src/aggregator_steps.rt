@@ -1,14 +1,14 @@
 //! The steps of a pass at its aggregators.
 
-ghost use Rattle.std.specs.Prelude.{◌≡◌, ◌≢◌, ◌≤◌, ◌*◌, ℕ, Some};
-ghost use Rattle.fn_layout.specs.Tree.{aggregator};
+ghost use Rattle.std.specs.Prelude.{◌≡◌, ◌≢◌, ◌<◌, ◌≤◌, ◌*◌, ◌/◌, ℕ, Some};
+ghost use Rattle.fn_layout.specs.Tree.{aggregator, members};
 ghost use Rattle.fn_layout.specs.Words.{IsAggregator, IsSlot};
 ghost use Rattle.fn_rows.specs.Aggregator.{asked};
 ghost use Rattle.fn_rows.specs.declared.Field.{Field};
 ghost use Rattle.fn_rows.specs.declared.Field.TheVariants.{Prev};
 ghost use Rattle.fn_core.specs.Machine.{word_of};
 ghost use Rattle.fn_core.specs.State.{reply_of};
-ghost use Rattle.fn_core.specs.Words.{link, told_field, NamesMine};
+ghost use Rattle.fn_core.specs.Words.{link, row_there, told_field, NamesMine};
 ghost use Rattle.fn_core.specs.declared.Move.TheVariants.{Scan, See, Announce, Arrive, Look, Close, Head, Fill, Point, Publish, Peek, Leave};
 
 use crate::Position;
@@ -113,10 +113,19 @@ impl Machine {
         if word == 0 {
             return 0;
         }
+        u64::from(self.row_in(kind, level, index, word - 1)) + 1
+    }
+
+    /// The row with this number at an aggregator, by its number in the layout.
+    pub fn row_in(&self, kind: Kind, level: u32, index: u32, row: u64) -> u32
+        requires place { IsAggregator self.now.start.shape kind level index }
+        requires named { row / self.now.start.shape.rows < members self.now.start.shape level index }
+        ensures { result ≡ row_there self.now.start.shape kind level index row }
+    {
         let shape = self.start.shape;
-        let row = (word - 1) as u32;
-        let pass = shape.pass_of(level, index, row / shape.rows());
-        u64::from(shape.row_of(pass, kind, level, row % shape.rows())) + 1
+        let rows = u64::from(shape.rows());
+        let pass = shape.pass_of(level, index, (row / rows) as u32);
+        shape.row_of(pass, kind, level, (row % rows) as u32)
     }
 
     /// Stores one word of the row that the call fills.

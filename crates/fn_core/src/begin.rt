@@ -1,6 +1,6 @@
 //! How a call begins: it finds a row at each level, and arrives at its leaf.
 
-ghost use Rattle.std.specs.Prelude.{◌≡◌, ◌≢◌, ◌-◌, ◌+◌, ◌<◌, ◌≤◌, ◌++◌, List, IfOk, IfErr, ℕ, suc, None, Some, if◌then◌else◌, option_map};
+ghost use Rattle.std.specs.Prelude.{◌≡◌, ◌≢◌, ◌-◌, ◌+◌, ◌*◌, ◌<◌, ◌≤◌, ◌++◌, List, length, IfOk, IfErr, ℕ, suc, None, Some, if◌then◌else◌, option_map};
 ghost use Rattle.fn_model.specs.declared.Kind.{Kind};
 ghost use Rattle.fn_layout.specs.Tree.{IsLevel};
 ghost use Rattle.fn_layout.specs.Words.{IsSlot, Announcement};
@@ -38,6 +38,7 @@ impl Core {
         ensures blocked { IfOk result (λ told. (at : Blocked) → told ≡ NoRow at → IsBlocked self.old.start (state_in self.old) pass kind (begin_moves self.old.start (state_in self.old) pass kind amount) at) }
         ensures others { IfOk result (λ _. LeavesOthers self.old self.new pass) }
         ensures chosen { IfOk result (λ told. told ≡ Waiting → (level : ℕ) → IsLevel self.old.start.shape level → first_free self.new.start (state_in self.new) kind level pass ≡ first_below (is_open self.old.start (state_in self.old) kind level pass) self.old.start.shape.rows) }
+        ensures few { IfOk result (λ _. length (begin_moves self.old.start (state_in self.old) pass kind amount) ≤ self.old.start.shape.levels * (self.old.start.shape.passes * self.old.start.shape.rows + 3)) }
         ensures no_memory { IfErr result (λ _. self.new ≡ self.old) }
     {
         let alloc = *self.log.allocator();

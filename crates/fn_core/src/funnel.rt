@@ -7,7 +7,7 @@ ghost use Rattle.fn_core.specs.State.{stage};
 ghost use Rattle.fn_core.specs.Machine.{IsChange, MaySpend, Allowed};
 ghost use Rattle.fn_core.specs.Order.{next_move};
 ghost use Rattle.fn_core.specs.Batches.{has_come};
-ghost use Rattle.fn_core.specs.Calls.{state_in, calls_in, IsLegal, with_move, with_moves, newly_opened, open_fault, TellsFault, IsIdle, HasCall, left_of, LeavesOthers, stage_for, look_told, exchange_told, told_by, step_answer, Follows, MayOwn, own_moves, exchange_moves, OwnCallJoins};
+ghost use Rattle.fn_core.specs.Calls.{state_in, calls_in, IsLegal, with_move, with_moves, newly_opened, open_fault, TellsFault, IsIdle, HasCall, left_of, LeavesOthers, stage_for, look_told, exchange_told, told_by, step_answer, Follows, HasFewLeft, MayOwn, own_moves, exchange_moves, OwnCallJoins};
 
 use crate::aggregator_steps::reply_of;
 use crate::answer::{Answer, CoreStep, NoMemory, OpenFault, Why};
@@ -103,9 +103,15 @@ impl Core {
     pub fn main(&self) -> u64
         ensures word { result ≡ (state_in self.now).main }
         ensures value { result ≡ value self.now.start.cap self.now.start.opening (calls_in self.now) }
-        ensures legal { IsLegal self.now }
     {
         self.machine.main
+    }
+
+    /// What every funnel is: its start may be opened, and its events are legal, so that all laws of legal logs hold of it.
+    pub fn log_is_legal(&self)
+        ensures { IsLegal self.now }
+    {
+        let _ = &self.log;
     }
 
     /// Whether the pass makes no call.
@@ -131,6 +137,7 @@ impl Core {
         ensures taken { IfOk result (λ _. self.new ≡ with_move self.old pass (next_move self.old.start (state_in self.old) pass)) }
         ensures told { IfOk result (λ told. told ≡ step_answer self.old.start (state_in self.old) pass) }
         ensures follows { IfOk result (λ told. Follows self.old self.new pass told) }
+        ensures few { IfOk result (λ _. HasFewLeft self.old pass) }
         ensures spends { IfOk result (λ _. left_of self.new pass ≡ left_of self.old pass) }
         ensures others { IfOk result (λ _. LeavesOthers self.old self.new pass) }
         ensures no_memory { IfErr result (λ _. self.new ≡ self.old) }
@@ -155,6 +162,7 @@ impl Core {
         ensures others { IfOk result (λ _. LeavesOthers self.old self.new pass) }
         ensures no_memory { IfErr result (λ _. self.new ≡ self.old) }
     {
+        self.log_is_legal();
         let read = Move::Load {
             purpose: Purpose::Read,
         };
@@ -233,7 +241,6 @@ impl Core {
         ensures taken { IfOk result (λ _. self.new ≡ with_move self.old pass step) }
         ensures met { IfOk result (λ reply. reply ≡ (state_in self.old).main) }
         ensures no_memory { IfErr result (λ _. self.new ≡ self.old) }
-        ensures legal { IsLegal self.old }
     {
         let main = self.main();
         self.apply(&Event { pass, step })?;
@@ -248,7 +255,6 @@ impl Core {
         ensures taken { IfOk result (λ _. self.new ≡ with_moves self.old pass (own_moves self.old.start.cap Kind.Add amount)) }
         ensures met { IfOk result (λ reply. reply ≡ (state_in self.old).main) }
         ensures no_memory { IfErr result (λ _. self.new ≡ self.old) }
-        ensures legal { IsLegal self.old }
     {
         if self.machine.start.cap == NO_CAP {
             self.own_step(pass, Move::Direct { amount })
@@ -266,7 +272,6 @@ impl Core {
         ensures taken { IfOk result (λ _. self.new ≡ with_moves self.old pass (exchange_moves kind amount)) }
         ensures met { IfOk result (λ reply. reply ≡ (state_in self.old).main) }
         ensures no_memory { IfErr result (λ _. self.new ≡ self.old) }
-        ensures legal { IsLegal self.old }
     {
         let load = Event {
             pass,

@@ -2,8 +2,10 @@
 #![tactic(auto)]
 
 ghost use Rattle.fn_core.specs.Laws.{RepliesAreRight, DirectRepliesAreRight, RepliesAreBounded, MainIsValue, CallsStandOnce, HistoriesGrow, PlacesAreBeyond, WordsAreSmall, AdditionsAddAll, BatchesFollow, BasesAreRight};
-ghost use Rattle.fn_core.specs.Laws.{RowsAreLawful, RowsHaveNames, FreeRowsStay, FreeRowsAreFound, CallsKeepRows, LastCallsAreOwn, OwnCallsAreInOrder, OwnCallsGrowByOne, OwnCallsStay};
-ghost use Rattle.fn_core.specs.Laws.{EventsAreLocal, GuardsStay, EventsAreSteps, PositionsFit, CallsAlwaysGoOn, StepsRunOut, CallsAreShort};
+ghost use Rattle.fn_core.specs.Laws.{RowsAreLawful, RowsHaveNames, FreeRowsStay, FreeRowsAreFound, CallsKeepRows, ChosenRowsStay, LastCallsAreOwn, OwnCallsAreInOrder, OwnCallsGrowByOne, OwnCallsStay};
+ghost use Rattle.fn_core.specs.Laws.{EventsAreLocal, GuardsStay, NextIsOwn, EventsAreSteps, PositionsFit, CallsAlwaysGoOn, StepsRunOut, CallsAreShort, OthersCostNothing};
+ghost use Rattle.fn_core.specs.Trees.{TreesStand, OneStepAnEvent};
+ghost use Rattle.fn_core.specs.Polls.{StepsFollow, PollsAreShort};
 ghost use Rattle.fn_core.specs.After.{StepsTell, WordsAreFound};
 
 mod aggregator_steps;
@@ -122,13 +124,20 @@ pub fn batches_follow()
     ensures bases { BasesAreRight }
 {}
 
-/// Each aggregator keeps the row law, and a call keeps a free row at each level at which it may come to fill one.
+/// One step of the main word stands for a whole tree of batches: all calls under a batch that enters stand side by side in the history, and each meets what the word found and the offsets on the way down give.
+pub fn one_step_for_a_tree()
+    ensures trees { TreesStand }
+    ensures one { OneStepAnEvent }
+{}
+
+/// Each aggregator keeps the row law, and a call keeps a free row at each level at which it may come to fill one: the one that its beginning chose.
 pub fn rows_are_kept()
     ensures lawful { RowsAreLawful }
     ensures named { RowsHaveNames }
     ensures stay { FreeRowsStay }
     ensures found { FreeRowsAreFound }
     ensures kept { CallsKeepRows }
+    ensures chosen { ChosenRowsStay }
 {}
 
 /// The own calls of a pass stand in the history in the order in which it made them, and each call adds itself alone.
@@ -139,10 +148,11 @@ pub fn own_calls_are_in_order()
     ensures stay { OwnCallsStay }
 {}
 
-/// An event of one pass changes nothing of any other, and takes no step away from it.
+/// An event of one pass changes nothing of any other, and leaves each step that it may take and the one that it takes next.
 pub fn events_are_local()
     ensures local { EventsAreLocal }
     ensures guards { GuardsStay }
+    ensures next { NextIsOwn }
 {}
 
 /// Each step of a pass is on one of the funnel's words, and what it finds there tells the pass where it stands then.
@@ -158,4 +168,7 @@ pub fn calls_go_on()
     ensures next { CallsAlwaysGoOn }
     ensures run_out { StepsRunOut }
     ensures short { CallsAreShort }
+    ensures others { OthersCostNothing }
+    ensures follow { StepsFollow }
+    ensures polls { PollsAreShort }
 {}

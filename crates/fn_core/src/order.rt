@@ -636,11 +636,8 @@ impl Machine {
         requires named { row / self.now.start.shape.rows < members self.now.start.shape level (aggregator self.now.start.shape pass level) }
         ensures { result ≡ row_there self.now.start.shape kind level (aggregator self.now.start.shape pass level) row }
     {
-        let shape = self.start.shape;
-        let rows = u64::from(shape.rows());
-        let index = shape.aggregator_of(pass, level);
-        let owner = shape.pass_of(level, index, (row / rows) as u32);
-        self.own_row(owner, kind, level, row)
+        let index = self.start.shape.aggregator_of(pass, level);
+        self.row_in(kind, level, index, row)
     }
 }
 

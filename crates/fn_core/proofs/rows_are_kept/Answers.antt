@@ -3,6 +3,7 @@ use Rattle.fn_core.proofs.Names.{rows_have_names}
 use Rattle.fn_core.proofs.Free.{free_rows_stay}
 use Rattle.fn_core.proofs.FirstFree.{free_rows_are_found}
 use Rattle.fn_core.proofs.Filling.{calls_keep_rows}
+use Rattle.fn_core.proofs.Chosen.{chosen_rows_stay}
 use Rattle.fn_core.proofs.rows_are_kept.Goals as goal
 
 pub returns-clause-lawful : goal.returns-clause-lawful
@@ -19,3 +20,6 @@ returns-clause-found c = free_rows_are_found
 
 pub returns-clause-kept : goal.returns-clause-kept
 returns-clause-kept c = calls_keep_rows
+
+pub returns-clause-chosen : goal.returns-clause-chosen
+returns-clause-chosen c = chosen_rows_stay

@@ -131,6 +131,7 @@ fn calls_by_themselves_meet_the_main_word(rt: HostRuntime) -> Result<(), Fail> {
         assert_eq!(rt; core.own(0, Kind::Sub, 3)?, 13);
         assert_eq!(rt; core.own(0, Kind::Read, 0)?, 10);
         assert!(&rt; core.is_idle(0));
+        core.log_is_legal();
     }
     Ok(())
 }
@@ -144,4 +145,18 @@ fn an_addition_by_itself_stops_at_the_cap(rt: HostRuntime) -> Result<(), Fail> {
         assert_eq!(rt; core.own(0, Kind::Read, 0)?, 8);
     }
     Ok(())
+}
+
+#[test]
+fn the_laws_are_called() {
+    crate::replies_are_right();
+    crate::main_is_value();
+    crate::words_are_small();
+    crate::batches_follow();
+    crate::one_step_for_a_tree();
+    crate::rows_are_kept();
+    crate::own_calls_are_in_order();
+    crate::events_are_local();
+    crate::steps_tell();
+    crate::calls_go_on();
 }

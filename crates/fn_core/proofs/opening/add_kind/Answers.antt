@@ -1,4 +1,4 @@
-use Rattle.std.proofs.Common.{List, [], ◌∷◌, ◌++◌, ℕ, ◌+◌, ◌<◌, ◌≡◌, sym, refl, ◌∙◌, ap, subst, arith, append_assoc}
+use Rattle.std.proofs.Common.{List, [], ◌++◌, ℕ, ◌+◌, ◌≡◌, sym, refl, ◌∙◌, ap, subst, arith, append_assoc}
 use Rattle.std.proofs.lemmas.List.{append-nil}
 use Rattle.fn_rows.specs.Aggregator.{Aggregator}
 use Rattle.fn_core.specs.Opening.{AreBelow}

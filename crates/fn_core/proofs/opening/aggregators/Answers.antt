@@ -1,4 +1,4 @@
-use Rattle.std.proofs.Common.{List, [], ◌++◌, ◌≡◌, sym, ◌∙◌, ap, subst}
+use Rattle.std.proofs.Common.{List, ◌++◌, ◌≡◌, sym, ◌∙◌, ap, subst}
 use Rattle.fn_rows.specs.Aggregator.{Aggregator}
 use Rattle.fn_core.specs.Fields.{ArePlaces}
 use Rattle.fn_core.specs.Opening.{unreached}

@@ -1,4 +1,4 @@
-use Rattle.std.proofs.Common.{arith, inl, inr, ℕ, ◌+◌, ◌*◌, ◌<◌, subst}
+use Rattle.std.proofs.Common.{arith, inl, inr, ℕ, ◌+◌, ◌*◌, subst}
 use Rattle.std.proofs.lemmas.Nat.{mul-add-lt}
 use Rattle.std.proofs.lemmas.Bool.{cases_eq}
 use Rattle.fn_rows.specs.Aggregator.{state_of}

@@ -3,12 +3,13 @@ use Rattle.fn_core.specs.declared.Event.{Event}
 use Rattle.fn_core.specs.State.{Start, State, opened}
 use Rattle.fn_core.specs.Machine.{MaySpend, Legal, run}
 use Rattle.fn_core.specs.Fields.{Stands}
-use Rattle.fn_core.specs.Begin.{begin_moves, begun, events_of}
+use Rattle.fn_core.specs.Begin.{finds_in, begin_moves, begun}
 use Rattle.fn_core.specs.Calls.{CoreLog, IsIdle, LeavesOthers, state_in, with_moves}
 use Rattle.fn_core.proofs.Left.{moves_leave_others}
 use Rattle.fn_core.proofs.Pushed.{with_moves_log}
 use Rattle.fn_core.proofs.Told.{after_waits, after_made, after_spent, after_refused, after_blocked, after_chosen}
 use Rattle.fn_core.proofs.Waits.{begin_happens}
+use Rattle.fn_core.proofs.Short.{begin_short}
 use Rattle.fn_core.proofs.funnel.Core.begin.Goals as goal
 
 pub take_all-requires : goal.take_all-requires
@@ -97,3 +98,6 @@ pub returns-clause-chosen : goal.returns-clause-chosen
 returns-clause-chosen c =
     let told = subst (λ (v : CoreLog). c.in_ok-events.told ≡ begun v.start (state_in v) c.args.pass c.args.kind) c.self.view_is (c.in_ok-events.ensures.told (run c.self.inside.machine.start c.self.inside.log.items (opened c.self.inside.machine.start)) c.self.invariant.fields) in
     after_chosen c.args.self.now _ c.args.pass c.requires.in_range c.args.kind c.requires.change c.args.amount c.requires.idle (returns-clause-taken c) c.in_ok-events.told told
+
+pub returns-clause-few : goal.returns-clause-few
+returns-clause-few c = let core = c.args.self.now in begin_short core.start.shape c.args.pass c.args.kind (finds_in core.start (state_in core) c.args.kind c.args.pass) c.args.amount

@@ -1,6 +1,6 @@
 use Rattle.std.proofs.Common.{◌≡◌, ◌∙◌, subst}
 use Rattle.fn_model.specs.Integer.{value}
-use Rattle.fn_core.specs.Calls.{CoreLog, calls_in, IsLegal}
+use Rattle.fn_core.specs.Calls.{CoreLog, calls_in}
 use Rattle.fn_core.proofs.Laws.{main_is_value}
 use Rattle.fn_core.proofs.funnel.Core.main.Goals as goal
 
@@ -9,6 +9,3 @@ returns-clause-value c =
     let stands = c.self.invariant in
     let law = main_is_value c.self.inside.machine.start c.self.inside.log.items stands.start_ok stands.legal in
     subst (λ (v : CoreLog). c.self.inside.machine.main ≡ value v.start.cap v.start.opening (calls_in v)) c.self.view_is (stands.fields.main_is ∙ law.0)
-
-pub returns-clause-legal : goal.returns-clause-legal
-returns-clause-legal c = subst IsLegal c.self.view_is (c.self.invariant.start_ok, c.self.invariant.legal)

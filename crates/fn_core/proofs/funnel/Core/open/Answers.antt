@@ -1,4 +1,4 @@
-use Rattle.std.proofs.Common.{◌≡◌, ℕ, List, map, refl, sym, ◌∙◌, ap, subst}
+use Rattle.std.proofs.Common.{ℕ, List, map, refl, sym, ◌∙◌, ap, subst}
 use Rattle.fn_core.specs.declared.machine.Machine.{Machine}
 use Rattle.fn_core.specs.Machine.{IsStart}
 use Rattle.fn_core.specs.Opening.{resting}

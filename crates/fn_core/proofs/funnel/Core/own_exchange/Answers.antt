@@ -1,11 +1,12 @@
-use Rattle.std.proofs.Common.{◌≡◌, inl, ◌<◌, List, [], ◌∷◌, ◌++◌, sym, ◌∙◌, ap, subst}
+use Rattle.std.proofs.Common.{inl, ◌<◌, List, [], ◌∷◌, ◌++◌, sym, ◌∙◌, ap, subst}
 use Rattle.fn_core.specs.declared.Event.{Event}
 use Rattle.fn_core.specs.declared.Move.TheVariants.{Load, Exchange}
 use Rattle.fn_core.specs.declared.Purpose.TheVariants as purpose
 use Rattle.fn_core.specs.Machine.{MaySpend}
 use Rattle.fn_core.specs.Fields.{Stands}
 use Rattle.fn_core.specs.Calls.{CoreLog, IsIdle, state_in}
-use Rattle.fn_core.proofs.Called.{stands_push, load_stands, exchange_may}
+use Rattle.fn_core.proofs.Called.{load_stands, exchange_may}
+use Rattle.fn_core.proofs.Pushed.{stands_next}
 use Rattle.fn_core.proofs.funnel.Core.own_exchange.Goals as goal
 
 pub take-requires : goal.take-requires
@@ -39,7 +40,7 @@ invariant_of-self-2 c =
     let exchange : Event = record { pass = pass; step = Exchange c.args.kind c.args.amount } in
     subst (Stands c.take-2.new.self)
     (sym (c.push_reserved-2.ensures.items ∙ ap (λ (xs : List Event). xs ++ exchange ∷ []) (c.push_reserved.ensures.items ∙ ap (λ (xs : List Event). xs ++ load ∷ []) c.reserve.ensures.items)))
-    (stands_push c.take.new.self c.take-2.new.self (log ++ load ∷ []) pass (Exchange c.args.kind c.args.amount) c.take-2.result
+    (stands_next c.take.new.self c.take-2.new.self (log ++ load ∷ []) exchange c.take-2.result
     (load_stands m c.take.new.self log c.self.invariant pass c.take.result c.take.ensures.start c.take.ensures.takes inside idle)
     (exchange_may m c.take.new.self log c.self.invariant pass c.take.result c.take.ensures.start c.take.ensures.takes inside idle c.args.kind c.args.amount c.requires.change spend)
     c.take-2.ensures.start c.take-2.ensures.takes)

@@ -6,7 +6,7 @@ use Rattle.fn_core.specs.Fields.{answer_of}
 use Rattle.fn_core.specs.Order.{next_move}
 use Rattle.fn_core.specs.Calls.{CoreLog, IsLegal, state_in, left_of, LeavesOthers, with_move, stage_for, told_by, step_answer, Follows}
 use Rattle.fn_core.proofs.Filling.{calls_always_go_on}
-use Rattle.fn_core.proofs.Follows.{follows}
+use Rattle.fn_core.proofs.Follows.{follows, few_left}
 use Rattle.fn_core.proofs.Left.{step_left, step_others}
 use Rattle.fn_core.proofs.funnel.Core.step.Goals as goal
 
@@ -43,6 +43,12 @@ returns-clause-follows c =
     ∙ ap (λ (x : Move). told_by core.start.cap x (stage_for core.start (state_in core) pass x) (answer_of core.start (state_in core) pass x)) is in
     subst (λ (new : CoreLog). Follows core new pass c.told_by.result) (sym taken)
     (subst (Follows core (with_move core pass (next_move core.start (state_in core) pass)) pass) (sym told) (follows core.start core.log legal.0 legal.1 pass c.requires.in_range c.requires.underway))
+
+pub returns-clause-few : goal.returns-clause-few
+returns-clause-few c =
+    let core = c.args.self.now in
+    let legal = subst IsLegal c.self.view_is (c.self.invariant.start_ok, c.self.invariant.legal) in
+    few_left core.start core.log legal.0 legal.1 c.args.pass c.requires.in_range c.requires.underway
 
 pub returns-clause-spends : goal.returns-clause-spends
 returns-clause-spends c =

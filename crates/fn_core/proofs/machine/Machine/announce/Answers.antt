@@ -1,8 +1,7 @@
-use Rattle.std.proofs.Common.{refl, ap, ◌∙◌}
+use Rattle.std.proofs.Common.{refl}
 use Rattle.fn_rows.specs.Machine as rows
-use Rattle.fn_core.specs.declared.answer.Answer.TheVariants.{Word}
 use Rattle.fn_core.proofs.Reached.{climbs_slot}
-use Rattle.fn_core.proofs.Taken.{in_rows, may_there, there, steps_there}
+use Rattle.fn_core.proofs.Taken.{in_rows, may_there, steps_there}
 use Rattle.fn_core.proofs.machine.Machine.announce.Goals as goal
 
 pub seat-place-requires : goal.seat-place-requires

@@ -1,5 +1,5 @@
-use Rattle.std.proofs.Common.{◌<◌, ◌∙◌, ap, arith}
-use Rattle.fn_layout.specs.Tree.{aggregator, members}
+use Rattle.std.proofs.Common.{◌∙◌, ap, arith}
+use Rattle.fn_layout.specs.Tree.{aggregator}
 use Rattle.fn_layout.proofs.Members.{members_are_numbered}
 use Rattle.fn_rows.specs.Machine as rows
 use Rattle.fn_core.proofs.Mirror.{here_read}

@@ -1,4 +1,4 @@
-use Rattle.std.proofs.Common.{◌≡◌, ℕ, List, refl, ap, sym, subst}
+use Rattle.std.proofs.Common.{refl, ap}
 use Rattle.fn_model.specs.declared.Kind.TheVariants.{Add}
 use Rattle.fn_rows.specs.Machine as rows
 use Rattle.fn_core.specs.declared.answer.Answer.TheVariants.{Word}

@@ -1,4 +1,4 @@
-use Rattle.std.proofs.Common.{◌-◌, refl, ap, ◌∙◌, arith}
+use Rattle.std.proofs.Common.{◌-◌, refl, ap, ◌∙◌}
 use Rattle.fn_rows.specs.Machine as rows
 use Rattle.fn_core.specs.State.{reply_of}
 use Rattle.fn_core.proofs.Reached.{climbs_slot}

@@ -1,6 +1,5 @@
-use Rattle.std.proofs.Common.{◌≡◌, ℕ, List, ap, sym, subst}
+use Rattle.std.proofs.Common.{ap, sym, subst}
 use Rattle.std.specs.Vec.{with_item}
-use Rattle.fn_core.specs.declared.Event.{Event}
 use Rattle.fn_core.specs.declared.Purpose.{Purpose}
 use Rattle.fn_core.specs.declared.Move.TheVariants.{Load}
 use Rattle.fn_core.specs.declared.answer.Answer.TheVariants.{Word}

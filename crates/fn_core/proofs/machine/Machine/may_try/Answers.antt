@@ -1,4 +1,4 @@
-use Rattle.std.proofs.Common.{refl, arith, ◌<◌}
+use Rattle.std.proofs.Common.{refl, arith}
 use Rattle.fn_model.specs.declared.Kind.TheVariants.{Read}
 use Rattle.fn_core.specs.State.{opened}
 use Rattle.fn_core.specs.Machine.{run}

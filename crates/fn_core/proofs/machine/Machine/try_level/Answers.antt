@@ -1,4 +1,4 @@
-use Rattle.std.proofs.Common.{◌≡◌, ℕ, suc, ◌+◌, ◌-◌, ◌≤◌, Bool, true, false, List, ◌++◌, Option, None, Some, is_none, is_some, not, option_map, refl, sym, ◌∙◌, ap, subst, arith}
+use Rattle.std.proofs.Common.{◌≡◌, ℕ, suc, ◌+◌, ◌-◌, ◌≤◌, Bool, List, Option, None, Some, is_none, is_some, not, option_map, refl, sym, ◌∙◌, ap, subst, arith}
 use Rattle.std.specs.Prelude.{if◌then◌else◌}
 use Rattle.std.specs.List.{range_with_len}
 use Rattle.fn_core.specs.declared.Event.{Event}
@@ -65,3 +65,11 @@ returns-clause-told c = λ s w.
     (c.loop-row.invariant s w).1 last ended
     ∙ some_mapped (blocked_by m.start s c.args.kind c.args.level last) (blocker m.start s c.args.kind c.args.level c.args.pass (row_end m.start s c.args.kind c.args.level c.args.pass last)) is
     ∙ sym (ap (λ (b : Bool). if b then None else at) (any_found test all ∙ ap is_some found))
+
+pub returns-clause-steps : goal.returns-clause-steps
+returns-clause-steps c = λ s w.
+    let m = c.args.self.now in
+    let scans = row_scans m.start s c.args.kind c.args.level c.args.pass in
+    let test = is_open m.start s c.args.kind c.args.level c.args.pass in
+    let all = range_with_len 0 m.start.shape.rows in
+    (goes_through (all_events c.args.pass scans) (λ n. events_of c.args.pass (scans n)) (all_events_more c.args.pass scans) refl test c.args.events.now.items c.loop-row.events.items _ all (c.loop-row.invariant s w).0 (range_end c.loop-row.row c.rows-row-end.result c.loop-row-test.false)).0

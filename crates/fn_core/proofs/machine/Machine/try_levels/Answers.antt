@@ -1,10 +1,10 @@
-use Rattle.std.proofs.Common.{◌≡◌, ℕ, ◌+◌, ◌-◌, Bool, true, false, List, ◌++◌, Option, None, Some, is_some, option_map, refl, sym, ◌∙◌, ap, subst}
+use Rattle.std.proofs.Common.{ℕ, ◌+◌, ◌-◌, Bool, List, Option, None, Some, is_some, option_map, refl, sym, ◌∙◌, ap, subst}
 use Rattle.std.specs.Prelude.{if◌then◌else◌}
 use Rattle.std.specs.List.{range_with_len}
 use Rattle.fn_core.specs.declared.Event.{Event}
 use Rattle.fn_core.specs.declared.answer.Blocked.{Blocked}
 use Rattle.fn_core.specs.Begin.{is_full, has_open, level_scans, blocked_at, events_of}
-use Rattle.fn_core.proofs.Tries.{Goes, all_events, all_events_more, goes_past, stops_at, range_step, some_unless, not_true}
+use Rattle.fn_core.proofs.Tries.{Goes, all_events, all_events_more, goes_past, stops_at, goes_through, range_end, range_step, some_unless, not_true}
 use Rattle.fn_core.proofs.machine.Machine.try_levels.Goals as goal
 
 pub returns-then-is_some-clause-steps : goal.returns-then-is_some-clause-steps
@@ -40,3 +40,18 @@ loop-level-preserved c = λ s w.
     let is = sym (some_unless (blocked_at m.start s c.args.kind c.args.pass level) (has_open m.start s c.args.kind c.args.pass level)) ∙ ap is_some (sym (c.in_ok-blocked.ensures.told s w)) ∙ sym c.is_some.ensures ∙ c.if-is_some.false in
     subst (λ (xs : List Event). Goes (all_events c.args.pass scans) test c.args.events.now.items xs left all) (sym (c.in_ok-blocked.ensures.steps s w))
     (goes_past (all_events c.args.pass scans) (λ n. events_of c.args.pass (scans n)) (all_events_more c.args.pass scans) refl test c.args.events.now.items c.loop-level.events.items _ all (c.loop-level.invariant s w) level left (range_step level _ c.loop-level-test.true) is)
+
+pub returns-clause-steps : goal.returns-clause-steps
+returns-clause-steps c = λ s w.
+    let m = c.args.self.now in
+    let scans = level_scans m.start s c.args.kind c.args.pass in
+    let all = range_with_len 1 m.start.shape.levels in
+    (goes_through (all_events c.args.pass scans) (λ n. events_of c.args.pass (scans n)) (all_events_more c.args.pass scans) refl (is_full m.start s c.args.kind c.args.pass) c.args.events.now.items c.loop-level.events.items _ all (c.loop-level.invariant s w) (range_end c.loop-level.level _ c.loop-level-test.false)).0
+
+pub returns-clause-told : goal.returns-clause-told
+returns-clause-told c = λ s w.
+    let m = c.args.self.now in
+    let scans = level_scans m.start s c.args.kind c.args.pass in
+    let all = range_with_len 1 m.start.shape.levels in
+    let at = blocked_at m.start s c.args.kind c.args.pass in
+    sym (ap (option_map at) (goes_through (all_events c.args.pass scans) (λ n. events_of c.args.pass (scans n)) (all_events_more c.args.pass scans) refl (is_full m.start s c.args.kind c.args.pass) c.args.events.now.items c.loop-level.events.items _ all (c.loop-level.invariant s w) (range_end c.loop-level.level _ c.loop-level-test.false)).1)

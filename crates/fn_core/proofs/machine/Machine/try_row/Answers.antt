@@ -1,10 +1,10 @@
-use Rattle.std.proofs.Common.{◌≡◌, ℕ, ◌+◌, ◌-◌, Bool, true, false, not, List, [], ◌∷◌, ◌++◌, Some, option_map, refl, sym, ◌∙◌, ap, subst}
+use Rattle.std.proofs.Common.{◌≡◌, ℕ, ◌+◌, ◌-◌, true, false, not, List, [], ◌∷◌, ◌++◌, Some, option_map, refl, sym, ◌∙◌, ap, subst}
 use Rattle.std.specs.List.{range_with_len, filter}
 use Rattle.fn_core.specs.declared.Event.{Event}
 use Rattle.fn_core.specs.declared.answer.Blocked.{Blocked}
 use Rattle.fn_core.specs.Order.{lets}
-use Rattle.fn_core.specs.Begin.{is_other, others, blocks, blocked_by, blocker, row_end, scanned, up_to}
-use Rattle.fn_core.proofs.Tries.{Goes, scan_events, goes_on_same, goes_past, stops_at, filter_keeps, filter_skips, lets_where, blocks_where, scanned_filled, blocker_filled}
+use Rattle.fn_core.specs.Begin.{is_other, others, blocks, blocked_by, blocker, scanned}
+use Rattle.fn_core.proofs.Tries.{Goes, scan_events, goes_on_same, goes_past, stops_at, goes_through, range_end, filter_keeps, filter_skips, lets_where, blocks_where, scanned_filled, blocker_filled}
 use Rattle.fn_core.proofs.machine.Machine.try_row.Goals as goal
 
 pub loop-other-preserved-then-not-is_other : goal.loop-other-preserved-then-not-is_other
@@ -57,3 +57,25 @@ returns-then-not-lets-clause-told c = λ s w.
     let told : ℕ → Blocked = λ (x : ℕ). record { level = c.args.level; row = c.args.row; pass = other; announced = x - 1 } in
     ap (λ (x : ℕ). Some (told x)) (c.announced-word.ensures s w)
     ∙ sym (ap (option_map by) (sym (ap (blocker m.start s c.args.kind c.args.level c.args.pass) (c.row_end-end.ensures s w)) ∙ blocker_filled m.start s c.args.kind c.args.level c.args.pass c.row_end-end.result c.if-end-eq0.false ∙ found))
+
+pub returns-clause-steps : goal.returns-clause-steps
+returns-clause-steps c = λ s w.
+    let m = c.args.self.now in
+    let out = scan_events c.args.pass c.args.kind c.args.level in
+    let test = blocks m.start s c.args.kind c.args.level c.row_end-end.result in
+    let all = others m.start.shape c.args.level c.args.pass in
+    let ended = ap (filter (is_other m.start.shape c.args.level c.args.pass)) (range_end c.loop-other.other c.passes-other-end.result c.loop-other-test.false) in
+    (goes_through out (λ q. out (q ∷ [])) (λ x xs. refl) refl test c.args.events.now.items c.loop-other.events.items _ all (c.loop-other.invariant s w) ended).0
+    ∙ ap (λ (qs : List ℕ). c.args.events.now.items ++ out qs) (sym (scanned_filled m.start s c.args.kind c.args.level c.args.pass c.row_end-end.result c.if-end-eq0.false))
+    ∙ ap (λ (end : ℕ). c.args.events.now.items ++ out (scanned m.start s c.args.kind c.args.level c.args.pass end)) (c.row_end-end.ensures s w)
+
+pub returns-clause-told : goal.returns-clause-told
+returns-clause-told c = λ s w.
+    let m = c.args.self.now in
+    let out = scan_events c.args.pass c.args.kind c.args.level in
+    let test = blocks m.start s c.args.kind c.args.level c.row_end-end.result in
+    let all = others m.start.shape c.args.level c.args.pass in
+    let ended = ap (filter (is_other m.start.shape c.args.level c.args.pass)) (range_end c.loop-other.other c.passes-other-end.result c.loop-other-test.false) in
+    let found = (goes_through out (λ q. out (q ∷ [])) (λ x xs. refl) refl test c.args.events.now.items c.loop-other.events.items _ all (c.loop-other.invariant s w) ended).1 in
+    let by = blocked_by m.start s c.args.kind c.args.level c.args.row in
+    sym (ap (option_map by) (sym (ap (blocker m.start s c.args.kind c.args.level c.args.pass) (c.row_end-end.ensures s w)) ∙ blocker_filled m.start s c.args.kind c.args.level c.args.pass c.row_end-end.result c.if-end-eq0.false ∙ found))

@@ -1,7 +1,7 @@
-use Rattle.std.proofs.Common.{◌≡◌, ◌-◌, ◌≢◌}
+use Rattle.std.proofs.Common.{◌-◌}
 use Rattle.std.specs.List.{range_with_len, filter}
 use Rattle.fn_core.specs.State.{State}
-use Rattle.fn_core.specs.Begin.{is_other, others, blocks, row_end}
+use Rattle.fn_core.specs.Begin.{is_other, others, blocks}
 use Rattle.fn_core.specs.Fields.{Mirrors}
 use Rattle.fn_core.proofs.Tries.{Goes, scan_events}
 use Rattle.fn_core.proofs.machine.Machine.try_row.Given as goal

@@ -1,9 +1,0 @@
-use Rattle.std.proofs.Common.{arith, ap, ◌<◌, ◌≤◌, ◌/◌}
-use Rattle.fn_layout.specs.Tree.{aggregator}
-use Rattle.fn_core.proofs.Members.{members_few}
-use Rattle.fn_core.proofs.machine.Machine.row_there.Goals as goal
-
-pub overflow_cast-row : goal.overflow_cast-row
-overflow_cast-row c =
-    let few = members_few c.args.self.now.start.shape c.args.level (aggregator c.args.self.now.start.shape c.args.pass c.args.level) in
-    rw (c.from-rows.ensures, c.rows.ensures) (omega (arith, c.requires.named, few))
