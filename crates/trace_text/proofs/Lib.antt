@@ -1,7 +1,16 @@
 pub mod Allowed
+pub mod Cells
 pub mod Cutting
+pub mod DrillSums
+pub mod FirstFaults
+pub mod InPlace
+pub mod InTurn
+pub mod Moves
 pub mod OneByOne
 pub mod Refused
+pub mod Segments
 pub mod SoundLines
+pub mod SoundSteps
 pub mod Spelled
+pub mod Turns
 pub mod Whole

@@ -1,7 +1,8 @@
 -- Lines that are read one after the other.
 use Rattle.std.proofs.Common.{◌≡◌, ℕ, ◌+◌, true, false, List, [], ◌∷◌, ◌++◌, Option, Some, None, Result, Ok, Err, refl, ap, ◌∙◌, append_assoc, append-nil}
 use Rattle.std.specs.Prelude.{option_to_list}
-use Rattle.trace_text.specs.Script.{◌>>=◌, first_with_words, line_of, lines_of, total_with, within_limit, is_any, Fails}
+use Rattle.trace_text.specs.Script.{first_with_words, line_of, lines_of, total_with, within_limit, is_any, Fails}
+use Rattle.trace_text.specs.Steps.{◌>>=◌}
 use Rattle.trace_text.specs.Text.{words}
 use Rattle.trace_text.specs.declared.scripts.ScriptFault.{ScriptFault}
 use Rattle.trace_text.specs.declared.scripts.ScriptFault.TheVariants as fault

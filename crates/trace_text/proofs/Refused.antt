@@ -4,9 +4,10 @@ use Rattle.std.specs.Prelude.{◌==◌, nat_lt, option_to_list}
 use Rattle.std.proofs.lemmas.Bool.{cases_Bool}
 use Rattle.std.proofs.lemmas.List.Sums.{sum_by-cons}
 use Rattle.trace_text.proofs.SoundLines.{lt-true, total_with-ok, total_with-none, within_limit-ok}
-use Rattle.trace_text.specs.Faults.{FirstLineIsAtFault, IsAtFault, LineFaultsAreFirst, fault_in, is_amount, is_pass, line_fault, verb_fault, wrong_count}
+use Rattle.trace_text.specs.Faults.{FirstLineIsAtFault, IsAtFault, LineFaultsAreFirst, is_amount, is_pass, line_fault, verb_fault, wrong_count}
 use Rattle.trace_text.specs.Order.{amount}
-use Rattle.trace_text.specs.Script.{◌>>=◌, amount_of, has_third, line_of, lines_of, order_of, pass_of, third_of, total_with, verb_line, verb_of, within_limit}
+use Rattle.trace_text.specs.Script.{amount_of, has_third, line_of, lines_of, order_of, pass_of, third_of, total_with, verb_line, verb_of, within_limit}
+use Rattle.trace_text.specs.Steps.{◌>>=◌, fault_in}
 use Rattle.trace_text.specs.Sound.{total_amount}
 use Rattle.trace_text.specs.Text.{number, words}
 use Rattle.trace_text.specs.declared.orders.Verb.{Verb}

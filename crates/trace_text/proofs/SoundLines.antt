@@ -5,7 +5,8 @@ use Rattle.std.specs.List.{AllByRecursion}
 use Rattle.std.proofs.lemmas.List.Elements.{All-from_recursion}
 use Rattle.std.proofs.lemmas.List.Sums.{sum_by-cons}
 use Rattle.trace_text.specs.Order.{amount}
-use Rattle.trace_text.specs.Script.{◌>>=◌, capped, Content, FirstLine, Gives, Header, after_funnel, amount_of, content, header_of, header_or, line_of, lines_of, next_number, no_more, order_of, pass_of, required, script_from, shaped, third_of, total_with, verb_line, verb_of, within_limit}
+use Rattle.trace_text.specs.Script.{capped, Content, FirstLine, Gives, Header, after_funnel, amount_of, content, header_of, header_or, line_of, lines_of, next_number, no_more, order_of, pass_of, script_from, shaped, third_of, total_with, verb_line, verb_of, within_limit}
+use Rattle.trace_text.specs.Steps.{◌>>=◌, required}
 use Rattle.trace_text.specs.Sound.{HasAmount, HasPasses, IsNumbered, IsSound, MeetsBelow, RisesAbove, total_amount}
 use Rattle.trace_text.specs.Text.{number, is_number, value, words}
 use Rattle.fn_layout.specs.declared.shape.ShapeFault.{ShapeFault}
@@ -22,15 +23,15 @@ use Rattle.trace_text.specs.declared.scripts.ScriptFault.TheVariants as fault
 use Rattle.trace_text.specs.declared.scripts.ScriptLine.{ScriptLine}
 
 -- the parts of a reading that went well went well
-pub bind_ok : {A B : Type 0} (r : Result A ScriptFault) (f : A → Result B ScriptFault) (y : B) → (r >>= f) ≡ Ok y → (x : A) × (r ≡ Ok x) × (f x ≡ Ok y)
+pub bind_ok : {A B E : Type 0} (r : Result A E) (f : A → Result B E) (y : B) → (r >>= f) ≡ Ok y → (x : A) × (r ≡ Ok x) × (f x ≡ Ok y)
 bind_ok (Ok x) f y h = (x, refl, h)
 bind_ok (Err e) f y h = cc
 
-pub guard_ok : {A : Type 0} (b : Bool) (x y : A) (e : ScriptFault) → (if b then Ok x else Err e) ≡ Ok y → (b ≡ true) × (x ≡ y)
+pub guard_ok : {A E : Type 0} (b : Bool) (x y : A) (e : E) → (if b then Ok x else Err e) ≡ Ok y → (b ≡ true) × (x ≡ y)
 guard_ok true x y e h = (refl, cc)
 guard_ok false x y e h = cc
 
-pub guard_err : {A : Type 0} (b : Bool) (x y : A) (e : ScriptFault) → (if b then Err e else Ok x) ≡ Ok y → (b ≡ false) × (x ≡ y)
+pub guard_err : {A E : Type 0} (b : Bool) (x y : A) (e : E) → (if b then Err e else Ok x) ≡ Ok y → (b ≡ false) × (x ≡ y)
 guard_err false x y e h = (refl, cc)
 guard_err true x y e h = cc
 
@@ -38,7 +39,7 @@ pub chosen : {A : Type 0} (b : Bool) (x y : A) → (if b then Some x else None) 
 chosen true x y h = (refl, cc)
 chosen false x y h = cc
 
-pub required_ok : {A : Type 0} (e : ScriptFault) (o : Option A) (x : A) → required e o ≡ Ok x → o ≡ Some x
+pub required_ok : {A E : Type 0} (e : E) (o : Option A) (x : A) → required e o ≡ Ok x → o ≡ Some x
 required_ok e None x h = cc
 required_ok e (Some y) x h = cc
 
@@ -195,7 +196,7 @@ lines_of-sound passes at total (line ∷ rest) items below h =
     rw (← same) (sound-read passes at total sum.0 read.0 more.0 (words line) read.1 (within_limit-ok at limit.0 limit.1) sum.1 after)
 
 -- the opening is a number
-number-bound : (word : List ℕ) (n : ℕ) → number word ≡ Some n → n ≤ MOST_NUMBER
+pub number-bound : (word : List ℕ) (n : ℕ) → number word ≡ Some n → n ≤ MOST_NUMBER
 unfolding number
 number-bound word n h =
     let was = chosen (is_number word) (value word) n h in

@@ -5,8 +5,9 @@ use Rattle.std.specs.Str.{bytes_eq}
 use Rattle.std.proofs.lemmas.Slice.Eq.{bytes_eq-Decides}
 use Rattle.trace_text.proofs.SoundLines.{bind_ok, guard_ok, required_ok, lt-true}
 use Rattle.trace_text.specs.Grammar.{SpellsAmount, SpellsLine, SpellsOrder}
-use Rattle.trace_text.specs.Script.{◌>>=◌, amount_of, line_of, no_third, one_third, order_of, pass_of, required, spelled_as, spelling, third_of, verb_line, verb_of, verbs}
-use Rattle.trace_text.specs.Text.{number}
+use Rattle.trace_text.specs.Script.{amount_of, line_of, no_third, one_third, order_of, pass_of, spelling, third_of, verb_line, verb_of, verbs}
+use Rattle.trace_text.specs.Steps.{◌>>=◌, required}
+use Rattle.trace_text.specs.Text.{number, spelled_as}
 use Rattle.trace_text.specs.declared.orders.Verb.{Verb}
 use Rattle.trace_text.specs.declared.orders.Verb.TheVariants as verb
 use Rattle.trace_text.specs.declared.scripts.Order.{Order}
@@ -19,10 +20,10 @@ took : (b : Bool) (v w : Verb) (rest : Option Verb) → (if b then Some v else r
 took true v w rest h = inl (refl, cc)
 took false v w rest h = inr h
 
-spelled_as-is : (name : List ℕ) (others : List Verb) (w : Verb) → spelled_as name others ≡ Some w → name ≡ spelling w
+spelled_as-is : (name : List ℕ) (others : List Verb) (w : Verb) → spelled_as spelling name others ≡ Some w → name ≡ spelling w
 spelled_as-is name [] w h = cc
 spelled_as-is name (v ∷ others) w h =
-    elim (took (bytes_eq name (spelling v)) v w (spelled_as name others) h) [
+    elim (took (bytes_eq name (spelling v)) v w (spelled_as spelling name others) h) [
       | inl t ↦ (bytes_eq-Decides name (spelling v)).0 t.0 ∙ ap spelling t.1
       | inr later ↦ spelled_as-is name others w later
     ]

@@ -13,7 +13,8 @@ use Rattle.trace_text.proofs.SoundLines.{bind_ok, guard_ok, required_ok, le-true
 use Rattle.trace_text.proofs.Spelled.{line_of-is, line_of-blank, line_of-from}
 use Rattle.trace_text.specs.Grammar.{IsScript, SpellsHeader, SpellsLines}
 use Rattle.trace_text.specs.Order.{amount}
-use Rattle.trace_text.specs.Script.{Content, FirstLine, Gives, Header, content, after_funnel, capped, first_with_words, has_words, header_of, header_or, is_any, line_of, lines_of, next_number, no_more, required, script_from, script_of, shaped, total_with, within_limit}
+use Rattle.trace_text.specs.Script.{Content, FirstLine, Gives, Header, content, after_funnel, capped, first_with_words, has_words, header_of, header_or, is_any, line_of, lines_of, next_number, no_more, script_from, script_of, shaped, total_with, within_limit}
+use Rattle.trace_text.specs.Steps.{required}
 use Rattle.trace_text.specs.Sound.{total_amount}
 use Rattle.trace_text.specs.Text.{lines, number, words}
 use Rattle.trace_text.specs.declared.pieces.TheConstants.{MOST_NUMBER}

@@ -1,8 +1,9 @@
 -- The faults of a script by their table: which line is at fault, and which fault is its first.
-use Rattle.std.specs.Prelude.{◌≡◌, ℕ, ◌+◌, ◌^◌, ◌<◌, ◌≤◌, ◌==◌, ◌||◌, ◌⊎◌, Bool, true, false, not, nat_lt, if◌then◌else◌, List, [], ◌∷◌, ◌++◌, length, Option, Some, None, Result, Ok, Err}
+use Rattle.std.specs.Prelude.{◌≡◌, ℕ, ◌+◌, ◌^◌, ◌<◌, ◌≤◌, ◌==◌, ◌||◌, ◌⊎◌, Bool, true, false, not, nat_lt, if◌then◌else◌, List, [], ◌∷◌, ◌++◌, length, Option, Some, None, Ok, Err}
 use Rattle.trace_text.specs.Order.{amount}
 use Rattle.trace_text.specs.Script.{has_third, line_of, lines_of, verb_of}
 use Rattle.trace_text.specs.Sound.{total_amount}
+use Rattle.trace_text.specs.Steps.{fault_in}
 use Rattle.trace_text.specs.Text.{number, words}
 use Rattle.trace_text.specs.declared.orders.Verb.{Verb}
 use Rattle.trace_text.specs.declared.orders.Verb.TheVariants as verb
@@ -66,11 +67,6 @@ abbrev pub line_fault : ℕ → ℕ → List (List ℕ) → Option ScriptFault
 line_fault passes at [] = None
 line_fault passes at (pass ∷ []) = Some (fault.Fields at)
 line_fault passes at (pass ∷ name ∷ more) = verb_fault passes at pass (verb_of name) more
-
--- the fault of a reading
-abbrev pub fault_in : {A : Type 0} → Result A ScriptFault → Option ScriptFault
-fault_in (Ok _) = None
-fault_in (Err found) = Some found
 
 -- the fault with which a line is read is its first one
 abbrev pub LineFaultsAreFirst : Type 0

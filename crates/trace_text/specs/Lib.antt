@@ -1,7 +1,16 @@
+pub mod Accounts
+pub mod Drill
 pub mod Faults
+pub mod Fields
 pub mod Grammar
 pub mod Laws
+pub mod Left
 pub mod Order
+pub mod Records
 pub mod Script
 pub mod Sound
+pub mod SoundTrace
+pub mod Steps
 pub mod Text
+pub mod Trace
+pub mod TraceFaults

@@ -6,7 +6,8 @@ use Rattle.fn_layout.specs.Shape.{first_fault}
 use Rattle.fn_layout.specs.declared.shape.Shape.{Shape}
 use Rattle.fn_layout.specs.declared.shape.ShapeFault.{ShapeFault}
 use Rattle.trace_text.specs.Order.{amount}
-use Rattle.trace_text.specs.Text.{lines, words, number}
+use Rattle.trace_text.specs.Steps.{◌>>=◌, required}
+use Rattle.trace_text.specs.Text.{lines, words, number, spelled_as}
 use Rattle.trace_text.specs.declared.pieces.TheConstants.{MOST_NUMBER}
 use Rattle.trace_text.specs.declared.reading.TheConstants.{MOST_LINES}
 use Rattle.trace_text.specs.declared.orders.Verb.{Verb}
@@ -17,16 +18,6 @@ use Rattle.trace_text.specs.declared.scripts.Script.{Script}
 use Rattle.trace_text.specs.declared.scripts.ScriptFault.{ScriptFault}
 use Rattle.trace_text.specs.declared.scripts.ScriptFault.TheVariants as fault
 use Rattle.trace_text.specs.declared.scripts.ScriptLine.{ScriptLine}
-
-infixl 10 ◌>>=◌
-abbrev pub ◌>>=◌ : {A B : Type 0} → Result A ScriptFault → (A → Result B ScriptFault) → Result B ScriptFault
-(Ok x) >>= f = f x
-(Err e) >>= f = Err e
-
--- what there is, or a fault where there is nothing
-abbrev pub required : {A : Type 0} → ScriptFault → Option A → Result A ScriptFault
-required missing None = Err missing
-required missing (Some x) = Ok x
 
 -- a pass: a number below `passes`
 unfoldable pub pass_of : ℕ → ℕ → Option (List ℕ) → Result ℕ ScriptFault
@@ -51,17 +42,12 @@ spelling verb.Step = codes "step"
 spelling verb.Poll = codes "poll"
 spelling verb.Meet = codes "meet"
 
--- the first of these verbs that is written as a word
-abbrev pub spelled_as : List ℕ → List Verb → Option Verb
-spelled_as name [] = None
-spelled_as name (v ∷ others) = if bytes_eq name (spelling v) then Some v else spelled_as name others
-
 abbrev pub verbs : List Verb
 verbs = verb.Add ∷ verb.Sub ∷ verb.Direct ∷ verb.SubDirect ∷ verb.Read ∷ verb.Step ∷ verb.Poll ∷ verb.Meet ∷ []
 
 -- the verb that a word is
 unfoldable pub verb_of : List ℕ → Option Verb
-verb_of name = spelled_as name verbs
+verb_of name = spelled_as spelling name verbs
 
 -- whether an amount or a pass follows a verb
 abbrev pub has_third : Verb → Bool

@@ -1,6 +1,7 @@
--- How a text falls into lines and words, and which words are numbers.
+-- How a text falls into lines and words, and which words are numbers or written as told.
 use Rattle.std.specs.Prelude.{ℕ, ◌+◌, ◌-◌, ◌*◌, ◌==◌, ◌&&◌, Bool, false, not, nat_le, nat_lt, if◌then◌else◌, List, [], ◌∷◌, length, Option, Some, None, fold}
 use Rattle.std.specs.List.{list_all}
+use Rattle.std.specs.Str.{bytes_eq}
 
 -- a byte put before the first of some pieces
 abbrev pub onto : ℕ → List (List ℕ) → List (List ℕ)
@@ -51,3 +52,8 @@ is_number word = nat_lt 0 (length word) && nat_le (length word) 19 && list_all i
 -- the number that a word is: 1 to 19 digits, and a value below 2^63
 unfoldable pub number : List ℕ → Option ℕ
 number word = if is_number word then Some (value word) else None
+
+-- the first of these that is written as a word
+abbrev pub spelled_as : {A : Type 0} → (A → List ℕ) → List ℕ → List A → Option A
+spelled_as spelling word [] = None
+spelled_as spelling word (x ∷ others) = if bytes_eq word (spelling x) then Some x else spelled_as spelling word others

@@ -1,0 +1,91 @@
+//! The tenants of a trace while it is read, with the bounds of their values.
+ghost use Rattle.std.specs.Prelude.{◌≡◌, ◌≤◌, ◌<◌, ◌+◌, ◌^◌, ◌++◌, ◌∷◌, [], Ok, Some, None, IfOk, OnOk, IfSome, MatchResult, length, map, slice_set};
+ghost use Rattle.std.specs.List.{All};
+ghost use Rattle.trace_text.specs.Accounts.{IsHeld};
+ghost use Rattle.trace_text.specs.Trace.{Fails, Gives, account_after, account_at, account_of, account_settled, added, place_of, spent};
+
+use crate::pieces::MOST_NUMBER;
+use crate::traces::{Name, Op, Tenant, TraceFault};
+use std::alloc::Global;
+
+/// The most tenants of a trace.
+pub const MOST_TENANTS: usize = 256;
+
+/// A tenant, and what it has come to.
+#[derive(Drop)]
+pub struct Account {
+    pub tenant: Tenant,
+    /// the bound of its value at the segment's start, and all that the segment adds
+    pub reach: u64,
+    /// the same bound, and all amounts of the segment
+    pub used: u64,
+}
+
+/// The place of the tenant with a name.
+pub fn place_of(name: &[u8], accounts: &[Account]) -> Option<usize>
+    ensures { result ≡ place_of name.now accounts.now }
+{
+    accounts
+        .iter()
+        .position(|account| account.tenant.name.items.as_slice() == name)
+}
+
+/// The account of a tenant that is opened.
+pub fn account_of(alloc: Global, name: &[u8], opening: u64, cap: u64) -> Result<Account, TraceFault>
+    ensures { Gives (λ a. a) result (Ok (account_of name.now opening cap)) }
+{
+    let name = Name {
+        items: Vec::from_slice(alloc, name)?,
+    };
+    Ok(Account {
+        tenant: Tenant { name, opening, cap },
+        reach: opening,
+        used: opening,
+    })
+}
+
+/// Takes an op's amount, where the bound with all amounts of the segment stays below 2^63.
+#[tactic(auto, unfolding(crate::specs::Trace::spent))]
+pub fn spend(account: &mut Account, at: u64, op: Op, amount: u64) -> Result<(), TraceFault>
+    requires held { IsHeld account.old }
+    requires amount { amount ≤ MOST_NUMBER }
+    ensures { MatchResult result
+        (λ _. spent at op amount account.old ≡ Ok account.new)
+        (λ fault. Fails fault (spent at op amount account.old)) }
+{
+    if amount > MOST_NUMBER - account.used {
+        return Err(TraceFault::Total { at });
+    }
+    account.used += amount;
+    account.reach += added(op, amount);
+    Ok(())
+}
+
+// What an op can add.
+fn added(op: Op, amount: u64) -> u64
+    ensures exact { result ≡ added op amount }
+    ensures bound { result ≤ amount }
+{
+    match op {
+        Op::Add | Op::Direct => amount,
+        Op::Take | Op::Read => 0,
+    }
+}
+
+/// Begins the next segment.
+pub fn settle(account: &mut Account)
+    ensures { account.new ≡ account_settled account.old }
+{
+    let bound = account.reach.min(account.tenant.cap);
+    account.reach = bound;
+    account.used = bound;
+}
+
+/// Begins the next segment for all tenants.
+pub fn settle_all(accounts: &mut [Account])
+    ensures { accounts.new ≡ map account_settled accounts.old }
+{
+    for account in accounts.iter_mut() {
+        settle(account);
+    }
+}
