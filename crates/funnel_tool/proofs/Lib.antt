@@ -1,7 +1,14 @@
+pub mod Callers
+pub mod InTurn
 pub mod Leaving
 pub mod OneByOne
+pub mod OneLine
+pub mod Orders
 pub mod Outcomes
+pub mod Polled
 pub mod Polling
 pub mod Readings
 pub mod SameText
 pub mod Simple
+pub mod Tracks
+pub mod WholeRun

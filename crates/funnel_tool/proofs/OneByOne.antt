@@ -1,5 +1,5 @@
 -- Lines that are done one after the other.
-use Rattle.std.proofs.Common.{◌≡◌, ◌≢◌, ◌⊎◌, ℕ, zero, suc, ◌+◌, ◌<◌, ◌≤◌, Bool, true, false, List, [], ◌∷◌, ◌++◌, Option, None, Some, Result, Ok, Err, length, get_or, drop, refl, sym, ◌∙◌, ap, subst, arith, inl, inr, append_assoc, add-one, drop-cons, eq-eqb, ne_eqb}
+use Rattle.std.proofs.Common.{◌≡◌, ◌≢◌, ℕ, zero, suc, ◌+◌, ◌<◌, ◌≤◌, Bool, true, false, List, [], ◌∷◌, ◌++◌, None, Some, Result, Ok, Err, length, get_or, drop, refl, sym, ◌∙◌, ap, subst, arith, inl, inr, append_assoc, add-one, drop-cons, eq-eqb, ne_eqb}
 use Rattle.std.specs.Prelude.{◌==◌, if◌then◌else◌}
 use Rattle.std.specs.List.{range_with_len, find}
 use Rattle.std.proofs.lemmas.Bool.{cases_eq}
@@ -15,7 +15,7 @@ use Rattle.trace_text.specs.declared.scripts.ScriptLine.{ScriptLine}
 use Rattle.funnel_tool.specs.declared.lines.LineAnswer.{LineAnswer}
 use Rattle.funnel_tool.specs.declared.play.PlayFault.{PlayFault}
 use Rattle.funnel_tool.specs.Lines.{answer_line, answers_text, value_line}
-use Rattle.funnel_tool.specs.Play.{after_line, answered, finish, opened_core, order_answer, order_fault, play_lines, rests, run_text, unfinished}
+use Rattle.funnel_tool.specs.Play.{after_line, answered, opened_core, order_answer, order_fault, play_lines, rests, run_text, unfinished}
 use Rattle.funnel_tool.specs.Doing.{IsReady, Leaves, onto}
 
 -- a line that can be done

@@ -1,14 +1,12 @@
 -- How runs end.
-use Rattle.std.proofs.Common.{◌≡◌, ◌≢◌, ◌⊎◌, ◌<◌, ◌≤◌, ◌++◌, ℕ, List, [], Option, None, Some, Result, Ok, Err, Vec, String, length, refl, sym, ◌∙◌, ap, subst, arith, inl, inr, append-nil, length-append}
+use Rattle.std.proofs.Common.{◌≡◌, ◌⊎◌, ◌<◌, ◌≤◌, ℕ, List, Option, None, Some, Ok, Vec, String, length, refl, sym, ◌∙◌, ap, arith, inl, inr, append-nil, length-append}
 use Rattle.std.specs.declared.alloc.Global.{Global}
 use Rattle.std.specs.Io.KnownBytes.{Consumes, IsAtEnd}
 use Rattle.edge_io.specs.Causes.{Rose}
 use Rattle.edge_io.specs.Whole.{GivesAll}
-use Rattle.trace_text.specs.Script.{content, script_of}
-use Rattle.trace_text.specs.declared.scripts.Script.{Script}
+use Rattle.trace_text.specs.Script.{content}
 use Rattle.funnel_tool.proofs.SameText.{same-text}
 use Rattle.funnel_tool.specs.Words.{IsPlay}
-use Rattle.funnel_tool.specs.Play.{play_text}
 use Rattle.funnel_tool.specs.Outcome.{CantPlay, Ends, PlaysTo, Reads, Streams, WritesNothing, status_of}
 use Rattle.funnel_tool.specs.declared.ending.Ending.{Ending}
 use Rattle.funnel_tool.specs.declared.ending.Ending.TheVariants.{Done, Words, Refused, ReadFailed, WriteFailed, WriteStuck, NoMemory}

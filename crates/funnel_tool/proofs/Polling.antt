@@ -1,18 +1,16 @@
 -- The steps of a poll.
-use Rattle.std.proofs.Common.{◌≡◌, ◌≢◌, ℕ, zero, suc, ◌+◌, ◌-◌, ◌*◌, ◌/◌, ◌%◌, ◌<◌, ◌≤◌, min, List, [], ◌∷◌, true, false, refl, sym, ◌∙◌, ap, subst, arith}
-use Rattle.std.proofs.Math.Nat.{div-mul-le_self, mod-add-div, mul-le-mul_left, mul-le-mul_right}
+use Rattle.std.proofs.Common.{◌≡◌, ℕ, zero, suc, ◌+◌, ◌*◌, ◌/◌, ◌%◌, ◌<◌, ◌≤◌, min, false, refl, sym, ◌∙◌, ap, subst, arith}
+use Rattle.std.proofs.Math.Nat.{mod-add-div, mul-le-mul_left, mul-le-mul_right}
 use Rattle.fn_layout.specs.declared.shape.Shape.{Shape}
-use Rattle.fn_layout.specs.Tree.{aggregator, first_leaf, leaves_under, members}
+use Rattle.fn_layout.specs.Tree.{aggregator, leaves_under, members}
 use Rattle.fn_core.specs.declared.answer.CoreStep.{CoreStep}
 use Rattle.fn_core.specs.declared.answer.CoreStep.TheVariants.{Going, Ready, NotYet}
 use Rattle.fn_core.specs.declared.Start.{Start}
-use Rattle.fn_core.specs.State.{State}
-use Rattle.fn_core.specs.Machine.{moves}
 use Rattle.fn_core.specs.Order.{next_move}
 use Rattle.fn_core.specs.Bound.{steps_left}
 use Rattle.fn_core.specs.Laws.{HoldsRows}
-use Rattle.fn_core.specs.Calls.{CoreLog, Follows, HasCall, IsIdle, LeavesOthers, left_of, state_in, step_answer, with_move, with_moves}
-use Rattle.funnel_tool.specs.Play.{is_going, most_steps, poll_answer, poll_moves}
+use Rattle.fn_core.specs.Calls.{CoreLog, Follows, HasCall, LeavesOthers, left_of, state_in, step_answer, with_move, with_moves}
+use Rattle.fn_core.specs.Polls.{is_going, most_steps, poll_answer, poll_moves}
 use Rattle.funnel_tool.specs.Doing.{Leaves}
 use Rattle.funnel_tool.proofs.Leaving.{leaves-more, leaves-none, state_in-move, underway-after}
 
@@ -55,24 +53,24 @@ polls-first core pass call = record {
 }
 
 -- the core after the next step
-abbrev stepped : CoreLog → ℕ → CoreLog
+abbrev pub stepped : CoreLog → ℕ → CoreLog
 stepped now pass = with_move now pass (next_move now.start (state_in now) pass)
 
 -- the steps and the answer where the next step leaves the call going
-moves-on : (most : ℕ) (now : CoreLog) (pass : ℕ) → step_answer now.start (state_in now) pass ≡ Going
+pub moves-on : (most : ℕ) (now : CoreLog) (pass : ℕ) → step_answer now.start (state_in now) pass ≡ Going
     → with_moves now pass (poll_moves (suc most) now.start (state_in now) pass) ≡ with_moves (stepped now pass) pass (poll_moves most now.start (state_in (stepped now pass)) pass)
 moves-on most now pass going = rw (going, state_in-move now pass (next_move now.start (state_in now) pass)) refl
 
-answer-on : (most : ℕ) (now : CoreLog) (pass : ℕ) → step_answer now.start (state_in now) pass ≡ Going
+pub answer-on : (most : ℕ) (now : CoreLog) (pass : ℕ) → step_answer now.start (state_in now) pass ≡ Going
     → poll_answer (suc most) now.start (state_in now) pass ≡ poll_answer most now.start (state_in (stepped now pass)) pass
 answer-on most now pass going = rw (going, state_in-move now pass (next_move now.start (state_in now) pass)) refl
 
 -- .. and where it doesn't
-moves-end : (most : ℕ) (now : CoreLog) (pass : ℕ) → is_going (step_answer now.start (state_in now) pass) ≡ false
+pub moves-end : (most : ℕ) (now : CoreLog) (pass : ℕ) → is_going (step_answer now.start (state_in now) pass) ≡ false
     → with_moves now pass (poll_moves (suc most) now.start (state_in now) pass) ≡ stepped now pass
 moves-end most now pass ends = rw ends refl
 
-answer-end : (most : ℕ) (now : CoreLog) (pass : ℕ) → is_going (step_answer now.start (state_in now) pass) ≡ false
+pub answer-end : (most : ℕ) (now : CoreLog) (pass : ℕ) → is_going (step_answer now.start (state_in now) pass) ≡ false
     → poll_answer (suc most) now.start (state_in now) pass ≡ step_answer now.start (state_in now) pass
 answer-end most now pass ends = rw ends refl
 

@@ -1,5 +1,5 @@
 -- What some readings of words come to.
-use Rattle.std.proofs.Common.{◌≡◌, ◌≢◌, [], ◌∷◌, List, Some, codes, refl}
+use Rattle.std.proofs.Common.{◌≡◌, ◌≢◌, [], ◌∷◌, Some, codes, refl}
 use Rattle.clap.specs.Words.{fault_of, matches_of, first_of}
 use Rattle.clap.proofs.OnLiterals.{clap_on_literals}
 use Rattle.funnel_tool.specs.Words.{command_with, command_of, required_word}

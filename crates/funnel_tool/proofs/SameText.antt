@@ -1,9 +1,9 @@
 -- What a script says tells the script.
-use Rattle.std.proofs.Common.{◌≡◌, ◌≤◌, ℕ, refl, sym, ◌∙◌, ap, subst}
+use Rattle.std.proofs.Common.{◌≡◌, ◌≤◌, ℕ, sym, ◌∙◌, ap, subst}
 use Rattle.std.proofs.Math.Bridge.{le_prop}
 use Rattle.fn_layout.specs.declared.shape.Shape.{Shape}
 use Rattle.fn_layout.specs.declared.shape.TheConstants.{MAX_PASSES, MAX_LEAVES, MAX_LEVELS, MAX_ROWS}
-use Rattle.trace_text.specs.Script.{Header, content, header_in}
+use Rattle.trace_text.specs.Script.{content}
 use Rattle.trace_text.specs.declared.scripts.Script.{Script}
 use Rattle.trace_text.specs.declared.scripts.ScriptLine.{ScriptLine}
 use Rattle.std.specs.Prelude.{List}

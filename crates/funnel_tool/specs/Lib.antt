@@ -2,4 +2,5 @@ pub mod Lines
 pub mod Words
 pub mod Play
 pub mod Doing
+pub mod Replies
 pub mod Outcome

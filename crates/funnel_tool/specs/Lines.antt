@@ -1,5 +1,5 @@
 -- The text of each answer.
-use Rattle.std.specs.Prelude.{ℕ, List, [], ◌++◌, codes, decimal, flat_map}
+use Rattle.std.specs.Prelude.{ℕ, List, ◌++◌, codes, decimal, flat_map}
 use Rattle.fn_core.specs.declared.answer.Why.{Why}
 use Rattle.fn_core.specs.declared.answer.Why.TheVariants.{Behind, Lost}
 use Rattle.funnel_tool.specs.declared.lines.LineAnswer.{LineAnswer}

@@ -1,8 +1,9 @@
 -- How a run of the tool ends: what it read and wrote, its status, and its line on standard error.
 --     Streams      what a run sees of its three streams
+--     PlaysTo bytes text, TellsRun bytes text      the bytes spell a script that gives this text; and the text tells its run
 --     Ends words io ending      what each ending means
 --     status_of ending, error_line ending      its status, and its line on standard error
-use Rattle.std.specs.Prelude.{◌≡◌, ◌≢◌, ℕ, ◌<◌, ◌≤◌, ◌++◌, List, [], ◌∷◌, length, Option, Ok, Err, codes, decimal, String, map, string_bytes}
+use Rattle.std.specs.Prelude.{◌≡◌, ◌≢◌, ℕ, ◌<◌, ◌≤◌, ◌++◌, List, [], length, Option, Ok, Err, codes, decimal, String}
 use Rattle.std.specs.declared.alloc.Global.{Global}
 use Rattle.std.specs.Io.KnownBytes.{Consumes, Appends, IsAtEnd}
 use Rattle.edge_io.specs.Causes.{Rose}
@@ -15,6 +16,7 @@ use Rattle.trace_text.specs.declared.scripts.ScriptFault.{ScriptFault}
 use Rattle.trace_text.specs.declared.scripts.ScriptFault.TheVariants as script
 use Rattle.funnel_tool.specs.Words.{IsPlay}
 use Rattle.funnel_tool.specs.Play.{play_text}
+use Rattle.funnel_tool.specs.Replies.{IsRunText}
 use Rattle.funnel_tool.specs.declared.ending.Ending.{Ending}
 use Rattle.funnel_tool.specs.declared.ending.Ending.TheVariants.{Done, Words, Refused, ReadFailed, WriteFailed, WriteStuck, NoMemory}
 use Rattle.funnel_tool.specs.declared.ending.Refusal.{Refusal}
@@ -48,6 +50,10 @@ WritesNothing io = io.held_then ≡ io.held
 abbrev pub PlaysTo : List ℕ → List ℕ → Type 0
 PlaysTo bytes text = (s : Script) × (script_of bytes ≡ Ok (content s)) × (play_text s ≡ Ok text)
 
+-- the bytes spell a script, and the text tells its run, whose replies and value are those of one history of its calls
+abbrev pub TellsRun : List ℕ → List ℕ → Type 0
+TellsRun bytes text = (s : Script) × (script_of bytes ≡ Ok (content s)) × IsRunText s text
+
 -- a front of the text was written, and not all of it
 abbrev pub WritesFront : Streams → List ℕ → Type 0
 WritesFront io text = AppendsPart io.held io.held_then text
@@ -72,12 +78,12 @@ CantPlay bytes _ = ⊥
 
 -- what each ending means
 abbrev pub Ends : List (String Global) → Streams → Ending → Type 0
-Ends words io Done = IsPlay words × (bytes text : List ℕ) × Reads io bytes × PlaysTo bytes text × Appends io.held io.held_then text
+Ends words io Done = IsPlay words × (bytes text : List ℕ) × Reads io bytes × TellsRun bytes text × Appends io.held io.held_then text
 Ends words io Words = (IsPlay words → ⊥) × (io.left_then ≡ io.left) × WritesNothing io
 Ends words io (Refused why) = IsPlay words × IsRefused io why × WritesNothing io
 Ends words io ReadFailed = IsPlay words × Rose io.read_faults io.read_faults_then × WritesNothing io
-Ends words io WriteFailed = IsPlay words × (bytes text : List ℕ) × Reads io bytes × PlaysTo bytes text × WritesFront io text × Rose io.write_faults io.write_faults_then
-Ends words io WriteStuck = IsPlay words × (bytes text : List ℕ) × Reads io bytes × PlaysTo bytes text × WritesFront io text × Rose io.empty_writes io.empty_writes_then
+Ends words io WriteFailed = IsPlay words × (bytes text : List ℕ) × Reads io bytes × TellsRun bytes text × WritesFront io text × Rose io.write_faults io.write_faults_then
+Ends words io WriteStuck = IsPlay words × (bytes text : List ℕ) × Reads io bytes × TellsRun bytes text × WritesFront io text × Rose io.empty_writes io.empty_writes_then
 Ends words io NoMemory = WritesNothing io
 
 -- the status of an ending

@@ -3,7 +3,7 @@
 --     line_fault s line      why the line can't be done
 --     play_lines core lines      the answers of the lines and the core after them, or the first fault
 --     play_text script      the text that a script gives, or its fault
-use Rattle.std.specs.Prelude.{◌≡◌, ℕ, zero, suc, ◌*◌, Bool, true, false, List, [], ◌∷◌, Option, Some, None, Result, Ok, Err, if◌then◌else◌}
+use Rattle.std.specs.Prelude.{ℕ, zero, suc, ◌*◌, Bool, true, false, List, [], ◌∷◌, Option, Some, None, Result, Ok, Err, if◌then◌else◌}
 use Rattle.std.specs.List.{range_with_len, find}
 use Rattle.fn_model.specs.declared.Kind.TheVariants.{Add, Sub, Read}
 use Rattle.fn_core.specs.declared.Start.{Start}
@@ -19,7 +19,7 @@ use Rattle.fn_core.specs.declared.answer.CoreStep.TheVariants as step_as
 use Rattle.fn_core.specs.State.{State}
 use Rattle.fn_core.specs.Machine.{no_cap, moves}
 use Rattle.fn_core.specs.Order.{next_move}
-use Rattle.fn_core.specs.Bound.{steps_left}
+use Rattle.fn_core.specs.Polls.{most_steps, poll_moves, poll_answer}
 use Rattle.fn_core.specs.Begin.{begin_moves, begun}
 use Rattle.fn_core.specs.Calls.{CoreLog, state_in, with_moves, newly_opened, step_answer, own_moves}
 use Rattle.trace_text.specs.Sound.{allowances}
@@ -32,29 +32,6 @@ use Rattle.funnel_tool.specs.declared.lines.LineAnswer.TheVariants.{Waits, NoRow
 use Rattle.funnel_tool.specs.declared.play.PlayFault.{PlayFault}
 use Rattle.funnel_tool.specs.declared.play.PlayFault.TheVariants.{Busy, NothingPending, Unfinished}
 use Rattle.funnel_tool.specs.Lines.{answers_text}
-
--- whether a step leaves its call going
-abbrev pub is_going : CoreStep → Bool
-is_going step_as.Going = true
-is_going _ = false
-
--- one step more than the pass's call has left, so more than a poll takes before it is answered
-abbrev pub most_steps : Start → State → ℕ → ℕ
-most_steps start s pass = suc (steps_left start s pass (start.shape.passes * start.shape.rows))
-
--- the steps of a poll: those of the call up to the first that doesn't leave it going
-abbrev pub poll_moves : ℕ → Start → State → ℕ → List Move
-poll_moves zero start s pass = []
-poll_moves (suc most) start s pass =
-    let move = next_move start s pass in
-    move ∷ (if is_going (step_answer start s pass) then poll_moves most start (moves start s pass move) pass else [])
-
--- what the last of them tells
-abbrev pub poll_answer : ℕ → Start → State → ℕ → CoreStep
-poll_answer zero start s pass = step_as.Going
-poll_answer (suc most) start s pass =
-    let told = step_answer start s pass in
-    if is_going told then poll_answer most start (moves start s pass (next_move start s pass)) pass else told
 
 -- the steps of an order to a pass; a meeting has none
 abbrev pub order_moves : Start → State → ℕ → Order → List Move

@@ -5,12 +5,14 @@ ghost use Rattle.fn_model.specs.declared.Kind.TheVariants.{Read};
 ghost use Rattle.fn_core.specs.Machine.{IsChange, MaySpend};
 ghost use Rattle.fn_core.specs.Begin.{begin_moves, begun};
 ghost use Rattle.fn_core.specs.Order.{next_move};
+ghost use Rattle.fn_core.specs.Polls.{most_steps, poll_answer, poll_moves};
 ghost use Rattle.fn_core.specs.Calls.{HasCall, IsIdle, MayOwn, left_of, own_moves, state_in, step_answer, with_moves};
 ghost use Rattle.trace_text.specs.Order.{amount};
 ghost use Rattle.trace_text.specs.Sound.{HasAmount, HasPasses, IsSound};
 ghost use Rattle.trace_text.specs.declared.scripts.ScriptLine.{ScriptLine};
-ghost use Rattle.funnel_tool.specs.Play.{begun_answer, busy, finish, idle, most_steps, opened_core, order_answer, order_fault, order_moves, play_lines, play_text, poll_answer, poll_moves, rests, told_answer, unfinished};
+ghost use Rattle.funnel_tool.specs.Play.{begun_answer, busy, finish, idle, opened_core, order_answer, order_fault, order_moves, play_lines, play_text, rests, told_answer, unfinished};
 ghost use Rattle.funnel_tool.specs.Doing.{Does, Gives, IsReady, Leaves, onto};
+ghost use Rattle.funnel_tool.specs.Replies.{RepliesAreMet};
 
 use crate::lines::{LineAnswer, push_line, push_value};
 use fn_core::{Core, CoreBegun, CoreStep, NoMemory};
@@ -29,6 +31,11 @@ pub enum PlayFault {
     Unfinished { pass: u32 },
     NoMemory,
 }
+
+/// One history of the calls that the lines make explains all answers: each reply is the integer just before its call there, and the value is the history's.
+pub fn replies_are_met()
+    ensures { RepliesAreMet }
+{}
 
 /// Plays a script on the pure core, and gives the text of its answers.
 pub fn play_script(alloc: Global, script: &Script) -> Result<Vec<u8>, PlayFault>

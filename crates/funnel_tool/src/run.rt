@@ -4,7 +4,7 @@ ghost use Rattle.edge_io.specs.Causes.{Rose};
 ghost use Rattle.edge_io.specs.Whole.{AppendsFront};
 ghost use Rattle.funnel_tool.specs.declared.ending.Ending.{Ending};
 ghost use Rattle.funnel_tool.specs.Words.{IsPlay};
-ghost use Rattle.funnel_tool.specs.Outcome.{CantPlay, Ends, PlaysTo, Streams, error_line, status_of};
+ghost use Rattle.funnel_tool.specs.Outcome.{CantPlay, Ends, PlaysTo, Streams, TellsRun, error_line, status_of};
 
 use crate::ending::{Ending, INPUT_LIMIT, Refusal};
 use crate::play::{PlayFault, play_script};
@@ -97,7 +97,7 @@ fn play<S: Source, K: Sink>(alloc: Global, words: &[String], source: &mut S, out
 
 // The text of the script that some bytes spell, or how a run ends without one.
 fn text_of(alloc: Global, bytes: &[u8]) -> Result<Vec<u8>, Ending>
-    ensures { MatchResult result (λ text. PlaysTo bytes.now text.items) (λ ending. CantPlay bytes.now ending) }
+    ensures { MatchResult result (λ text. TellsRun bytes.now text.items) (λ ending. CantPlay bytes.now ending) }
 {
     let script = match read_script(alloc, bytes) {
         Ok(script) => script,

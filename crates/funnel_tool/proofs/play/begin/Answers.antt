@@ -1,4 +1,4 @@
-use Rattle.std.proofs.Common.{rules, arith, ◌≡◌, ◌∙◌, ◌+◌, ◌≤◌, sym, ap}
+use Rattle.std.proofs.Common.{arith, ◌≡◌, ◌∙◌, ◌+◌, sym, ap}
 use Rattle.fn_core.specs.State.{Caller}
 use Rattle.fn_core.specs.Calls.{left_of, state_in}
 use Rattle.fn_core.specs.Begin.{begin_moves}

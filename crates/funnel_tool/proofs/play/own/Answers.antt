@@ -1,4 +1,4 @@
-use Rattle.std.proofs.Common.{rules, arith, ◌≡◌, ◌∙◌, ◌+◌, ◌≤◌, sym, ap}
+use Rattle.std.proofs.Common.{arith, ◌≡◌, ◌+◌, ap}
 use Rattle.fn_core.specs.Calls.{left_of, own_moves}
 use Rattle.funnel_tool.specs.declared.lines.LineAnswer.TheVariants.{Reply}
 use Rattle.funnel_tool.proofs.Leaving.{leaves-by}

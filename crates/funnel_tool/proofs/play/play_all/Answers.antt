@@ -1,5 +1,5 @@
-use Rattle.std.proofs.Common.{rules, refl, ◌∙◌, inl, inr}
-use Rattle.funnel_tool.proofs.OneByOne.{ready-on, refused-at, so-far-next}
+use Rattle.std.proofs.Common.{refl, ◌∙◌}
+use Rattle.funnel_tool.proofs.OneByOne.{ready-on, so-far-next}
 use Rattle.funnel_tool.proofs.play.play_all.Goals as goal
 
 pub loop-line-preserved : goal.loop-line-preserved

@@ -1,4 +1,4 @@
-use Rattle.std.proofs.Common.{rules, ◌∙◌, ap}
+use Rattle.std.proofs.Common.{◌∙◌, ap}
 use Rattle.funnel_tool.specs.Play.{told_answer}
 use Rattle.funnel_tool.proofs.play.poll.Goals as goal
 

@@ -1,4 +1,3 @@
-use Rattle.std.proofs.Common.{rules, sym, ◌∙◌}
 use Rattle.funnel_tool.proofs.Polling.{IsPolled, fewer-left, polls-end, polls-on}
 use Rattle.funnel_tool.proofs.play.poll_call.Goals as goal
 

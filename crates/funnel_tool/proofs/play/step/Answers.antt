@@ -1,4 +1,4 @@
-use Rattle.std.proofs.Common.{rules, arith, ◌≡◌, ◌∙◌, ◌+◌, ◌≤◌, ◌∷◌, [], sym, ap}
+use Rattle.std.proofs.Common.{arith, ◌≡◌, ◌∙◌, ◌∷◌, [], ap}
 use Rattle.fn_core.specs.Calls.{left_of, state_in}
 use Rattle.fn_core.specs.Order.{next_move}
 use Rattle.funnel_tool.specs.Play.{told_answer}

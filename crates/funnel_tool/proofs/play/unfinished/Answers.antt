@@ -1,4 +1,4 @@
-use Rattle.std.proofs.Common.{rules, arith, sym, ◌∙◌, ◌<◌, ◌≡◌, ℕ, true, false}
+use Rattle.std.proofs.Common.{rules, sym, ◌<◌, ◌≡◌, ℕ, true, false}
 use Rattle.fn_core.specs.Calls.{state_in}
 use Rattle.funnel_tool.specs.Play.{rests}
 use Rattle.funnel_tool.proofs.OneByOne.{all-rest, first-busy}

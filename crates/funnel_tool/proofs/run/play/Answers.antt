@@ -1,4 +1,4 @@
-use Rattle.std.proofs.Common.{rules, ◌≡◌, refl}
+use Rattle.std.proofs.Common.{rules, refl}
 use Rattle.funnel_tool.specs.Words.{IsPlay}
 use Rattle.funnel_tool.proofs.Outcomes.{cant-ends, reads-all}
 use Rattle.funnel_tool.proofs.run.play.Goals as goal

@@ -1,5 +1,4 @@
-use Rattle.std.proofs.Common.{rules, ◌≡◌, sym}
-use Rattle.funnel_tool.specs.Outcome.{Streams}
+use Rattle.std.proofs.Common.{sym}
 use Rattle.funnel_tool.proofs.Outcomes.{complete-by}
 use Rattle.funnel_tool.proofs.run.run_play.Goals as goal
 

@@ -1,7 +1,7 @@
-use Rattle.std.proofs.Common.{rules, arith, ◌≡◌, ◌∙◌, ◌<◌, ◌+◌, [], map, length, get_or, ap, ap₂, sym}
-use Rattle.std.proofs.lemmas.List.{get_or-map, take_all}
+use Rattle.std.proofs.Common.{rules, ◌≡◌, ◌∙◌, ◌<◌, [], map, length, get_or, ap₂}
+use Rattle.std.proofs.lemmas.List.{get_or-map}
 use Rattle.std.proofs.Math.ListN.{length-map}
-use Rattle.clap.specs.Words.{app_of, new_rule, rule_of, with_rule}
+use Rattle.clap.specs.Words.{rule_of, with_rule}
 use Rattle.funnel_tool.specs.Words.{command_of, required_word}
 use Rattle.funnel_tool.proofs.Simple.{command_of-more}
 use Rattle.funnel_tool.proofs.words.command.Goals as goal

@@ -1,4 +1,4 @@
-use Rattle.std.proofs.Common.{rules, ◌≡◌, ◌∙◌, ◌≤◌, [], map, take, ap, true, sym}
+use Rattle.std.proofs.Common.{◌≡◌, ◌∙◌, ap, sym}
 use Rattle.std.proofs.lemmas.List.{take-map}
 use Rattle.clap.specs.Words.{app_of}
 use Rattle.funnel_tool.specs.Words.{command_of, command_with}
