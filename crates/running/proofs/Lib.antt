@@ -1,0 +1,6 @@
+pub mod Logs
+pub mod Numbers
+pub mod Views
+pub mod Keeps
+pub mod Between
+mod Examples
