@@ -1,0 +1,16 @@
+pub mod FunnelLaws
+pub mod Fit
+pub mod States
+pub mod Owes
+pub mod Small
+pub mod Glances
+pub mod Deals
+pub mod Opens
+pub mod Meets
+pub mod Gathers
+pub mod Closed
+pub mod Spares
+pub mod Keeping
+pub mod Published
+pub mod Stages
+pub mod OwnCalls

@@ -1,0 +1,14 @@
+use Rattle.std.proofs.Common.{ap, ◌∙◌}
+use Rattle.fn_table.proofs.Owes.{finding_keeps, step_tells, seat_still}
+use Rattle.fn_table.proofs.seated.exchange_as.Goals as goal
+
+pub compare_exchange-requires : goal.compare_exchange-requires
+compare_exchange-requires g c =
+    let i = c.pass.invariant in
+    (ap (λ p. p.table) c.pass.view_is ∙ c.requires.here.table, c.requires.here.inside, finding_keeps _ _ _ _ _ _ _ _ _ _ c.pass.view_is i.0 i.2 c.requires.may c.requires.here.place c.requires.step)
+
+pub returns : goal.returns
+returns g c = step_tells _ _ _ _ _ _ _ _ c.pass.view_is c.pass.invariant.0 c.pass.invariant.2 c.compare_exchange.ensures.0 c.compare_exchange.ensures.2.0
+
+pub invariant_of-pass : goal.invariant_of-pass
+invariant_of-pass g c = seat_still c.pass.inside.seat.table_id _ _ _ g.T.Taken.step _ c.pass.invariant c.compare_exchange.ensures.2.0 c.compare_exchange.ensures.2.1

@@ -1,0 +1,11 @@
+use Rattle.std.proofs.Common.{◌≡◌}
+use Rattle.fn_core.specs.Calls.{IsIdle}
+use Rattle.fn_table.specs.Seen.{IsOf}
+use Rattle.fn_table.proofs.tests.add_many.Given as goal
+
+abbrev pub invariant-loop : goal.invariant-loop
+invariant-loop l = record {
+  together : IsOf l.table l.pass;
+  number : l.pass.number ≡ l.fn.pass.number;
+  idle : IsIdle l.pass.seen l.pass.number;
+}

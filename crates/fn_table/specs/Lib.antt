@@ -1,0 +1,6 @@
+pub mod Funnel
+pub mod Seen
+pub mod Seats
+pub mod Places
+pub mod Kept
+pub mod Standing

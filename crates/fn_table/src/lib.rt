@@ -1,0 +1,41 @@
+//! The funnel's table: threads take the machine's events on shared words, each step exactly one event.
+#![tactic(auto)]
+
+mod book;
+mod climbing;
+mod closing;
+mod dealing;
+mod main_word;
+mod meeting;
+mod opening;
+mod pass;
+mod rule;
+mod seated;
+mod steps;
+mod table;
+mod tally;
+mod words;
+
+ghost use Rattle.running.specs.Machine.{Laws};
+ghost use Rattle.fn_table.specs.Funnel.{funnel, LogsAreLegal, GuardsAreOwn, AdditionsFit, StepsAreTold};
+
+pub use book::Book;
+pub use climbing::{
+    announce, arrive, close_batch, fill, head, leave, look, peek, point, publish, scan, see,
+};
+pub use main_word::{apply_batch, direct, exchange, load_read, load_try};
+pub use meeting::{meet, note};
+pub use pass::{Note, Pass};
+pub use table::FunnelTable;
+
+/// The funnel is a machine of the running rule: after every legal log each event changes its one word alone, and leaves what the other passes' guards read.
+pub fn funnel_is_a_machine()
+    ensures laws { Laws funnel }
+    ensures logs_are_legal { LogsAreLegal }
+    ensures guards_are_own { GuardsAreOwn }
+    ensures additions_fit { AdditionsFit }
+    ensures steps_are_told { StepsAreTold }
+{}
+
+#[cfg(test)]
+mod tests;

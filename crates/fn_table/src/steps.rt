@@ -1,0 +1,101 @@
+// A step of a seat for each operation on a word of its table, and the steps that leave what a pass keeps of itself.
+ghost use Rattle.std.specs.Prelude.{◌≡◌, ◌<◌, ◌==◌, Some};
+ghost use prog.Atomic.{either};
+ghost use Rattle.fn_table.specs.Seen.{IsOf, May, Stepped, Stored, place};
+ghost use Rattle.fn_table.specs.Funnel.{addition};
+ghost use Rattle.fn_table.specs.Kept.{KeepsTally};
+ghost use Rattle.fn_table.specs.Seats.{IsStep};
+
+use crate::pass::Pass;
+use crate::seated;
+use crate::seated::Seated;
+use crate::table::FunnelTable;
+use crate::words::word_of;
+use fn_core::Move;
+
+// The word of the pass's step.
+fn place_of(table: &FunnelTable, caller: &Seated, step: Move) -> usize
+    requires together { IsOf table.now caller.now }
+    requires may { May caller.now step }
+    ensures exact { result ≡ place caller.now step }
+    ensures inside { result < table.now.table.words }
+{
+    word_of(table.shape, caller.number, step) as usize
+}
+
+/// A load, by which the pass takes this step.
+pub fn load(table: &FunnelTable, caller: &mut Seated, step: Move) -> u64
+    requires together { IsOf table.now caller.old }
+    requires may { May caller.old step }
+    requires step { IsStep caller.old step (λ n. n) }
+    ensures { Stepped caller.old step result caller.new }
+{
+    let word = place_of(table, caller, step);
+    seated::load(&table.table.shared, caller, word, step)
+}
+
+/// An addition, by which the pass takes this step.
+pub fn add(table: &FunnelTable, caller: &mut Seated, amount: u64, step: Move) -> u64
+    requires together { IsOf table.now caller.old }
+    requires may { May caller.old step }
+    requires step { addition step ≡ Some amount }
+    ensures { Stepped caller.old step result caller.new }
+{
+    let word = place_of(table, caller, step);
+    seated::add(&table.table.shared, caller, word, amount, step)
+}
+
+/// A store, by which the pass takes this step.
+pub fn store(table: &FunnelTable, caller: &mut Seated, new: u64, step: Move)
+    requires together { IsOf table.now caller.old }
+    requires may { May caller.old step }
+    requires step { IsStep caller.old step (λ _. new) }
+    ensures { Stored caller.old step caller.new }
+{
+    let word = place_of(table, caller, step);
+    seated::store(&table.table.shared, caller, word, new, step);
+}
+
+/// A compare-exchange, by which the pass takes this step.
+pub fn exchange(table: &FunnelTable, caller: &mut Seated, old: u64, new: u64, step: Move) -> u64
+    requires together { IsOf table.now caller.old }
+    requires may { May caller.old step }
+    requires step { IsStep caller.old step (λ n. either (n == old) new n) }
+    ensures { Stepped caller.old step result caller.new }
+{
+    let word = place_of(table, caller, step);
+    seated::exchange(&table.table.shared, caller, word, old, new, step)
+}
+
+/// A load that leaves what the pass keeps of itself.
+pub fn quiet_load(table: &FunnelTable, pass: &mut Pass, step: Move) -> u64
+    requires together { IsOf table.now pass.old }
+    requires may { May pass.old step }
+    requires quiet { KeepsTally step }
+    requires step { IsStep pass.old step (λ n. n) }
+    ensures { Stepped pass.old step result pass.new }
+{
+    load(table, &mut pass.caller, step)
+}
+
+/// .. an addition
+pub fn quiet_add(table: &FunnelTable, pass: &mut Pass, amount: u64, step: Move) -> u64
+    requires together { IsOf table.now pass.old }
+    requires may { May pass.old step }
+    requires quiet { KeepsTally step }
+    requires step { addition step ≡ Some amount }
+    ensures { Stepped pass.old step result pass.new }
+{
+    add(table, &mut pass.caller, amount, step)
+}
+
+/// .. a store
+pub fn quiet_store(table: &FunnelTable, pass: &mut Pass, new: u64, step: Move)
+    requires together { IsOf table.now pass.old }
+    requires may { May pass.old step }
+    requires quiet { KeepsTally step }
+    requires step { IsStep pass.old step (λ _. new) }
+    ensures { Stored pass.old step pass.new }
+{
+    store(table, &mut pass.caller, new, step);
+}
