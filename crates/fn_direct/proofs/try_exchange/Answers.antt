@@ -1,0 +1,20 @@
+use Rattle.std.proofs.Common.{refl}
+use Rattle.fn_direct.proofs.Joined.{exchange_calls, exchange_makes_none}
+use Rattle.fn_direct.proofs.try_exchange.Goals as goal
+
+pub returns-in-Ok-clause-called : goal.returns-in-Ok-clause-called
+returns-in-Ok-clause-called c =
+    let load = c.load_try-loaded.ensures in
+    let exchange = c.in-Ok.ensures.step in (
+      record { between = c.load_try-loaded.new.pass; load = load; exchange = exchange },
+      exchange_calls c.args.pass.now c.requires.idle c.load_try-loaded.new.pass c.exchange.new.pass c.args.kind c.args.amount c.load_try-loaded.result c.load_try-loaded.result load exchange refl c.requires.amount.1,
+    )
+
+pub returns-in-Err-clause-lost : goal.returns-in-Err-clause-lost
+returns-in-Err-clause-lost c =
+    let load = c.load_try-loaded.ensures in
+    let exchange = c.in-Err.ensures.step in (
+      record { between = c.load_try-loaded.new.pass; load = load; exchange = exchange },
+      c.in-Err.ensures.lost,
+      exchange_makes_none c.args.pass.now c.requires.idle c.load_try-loaded.new.pass c.exchange.new.pass c.args.kind c.args.amount c.load_try-loaded.result c.in-Err.found load exchange c.in-Err.ensures.lost,
+    )
