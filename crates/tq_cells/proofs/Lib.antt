@@ -1,0 +1,10 @@
+pub mod Puts
+pub mod Quarters
+pub mod CellLaws
+pub mod Holders
+pub mod Tickets
+pub mod Follows
+pub mod Steps
+pub mod Tells
+pub mod Gathered
+pub mod Deals

@@ -1,0 +1,5 @@
+pub mod Machine
+pub mod Laws
+pub mod Rule
+pub mod Seen
+pub mod Seats
