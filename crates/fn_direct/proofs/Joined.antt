@@ -7,7 +7,7 @@ use Rattle.running.proofs.Logs.{own_same}
 use Rattle.fn_model.specs.declared.Call.{Call}
 use Rattle.fn_model.specs.declared.Kind.{Kind}
 use Rattle.fn_model.specs.declared.Kind.TheVariants.{Add, Read}
-use Rattle.fn_model.specs.Calls.{place} 
+use Rattle.fn_model.specs.Calls.{place}
 use Rattle.fn_model.specs.Calls.{own as own_calls}
 use Rattle.fn_core.specs.declared.Event.{Event}
 use Rattle.fn_core.specs.declared.Start.{Start}

@@ -94,12 +94,7 @@ pub fn meet(table: &FunnelTable, pass: &mut Pass, note: Note)
 }
 
 // Loads the main word, and exchanges it for what the call makes of it.
-fn try_exchange(
-    table: &FunnelTable,
-    pass: &mut Pass,
-    kind: Kind,
-    amount: u64,
-) -> Result<u64, Lost>
+fn try_exchange(table: &FunnelTable, pass: &mut Pass, kind: Kind, amount: u64) -> Result<u64, Lost>
     requires together { IsOf table.now pass.old }
     requires idle { IsIdle pass.old.seen pass.old.number }
     requires change { IsChange kind }
