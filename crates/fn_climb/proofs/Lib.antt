@@ -1,0 +1,13 @@
+pub mod Links
+pub mod Underway
+pub mod Onward
+pub mod Moves
+pub mod Goes
+pub mod Tops
+pub mod Sofar
+pub mod Along
+pub mod Scans
+pub mod Levels
+pub mod Every
+pub mod Leaf
+pub mod Refusals

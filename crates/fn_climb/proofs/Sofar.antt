@@ -1,0 +1,248 @@
+-- The steps of a poll so far: they are few, with at most one exchange among them, and what the last one tells is so from the first on.
+use Rattle.std.proofs.Common.{◌≡◌, ◌⊎◌, inl, inr, ⊎_elim, ℕ, suc, ◌+◌, ◌*◌, ◌<◌, ◌≤◌, Bool, true, false, List, [], ◌∷◌, ◌++◌, length, refl, sym, ◌∙◌, ap, subst, arith, length-append, append_assoc}
+use Rattle.std.specs.Prelude.{if◌then◌else◌}
+use Rattle.std.proofs.lemmas.Bool.{false≢true}
+use Rattle.std.proofs.lemmas.Nat.{mul-le}
+use mathlib.Core.List.{IsPrefix}
+use Rattle.running.proofs.Logs.{prefix_refl}
+use Rattle.fn_model.specs.declared.Kind.{Kind}
+use Rattle.fn_rows.specs.declared.Stage.{Stage}
+use Rattle.fn_rows.specs.declared.Stage.TheVariants.{Out, Saw, Told, Waiting, Lead, Late, Shut, Based, Headed, FilledLo, FilledBase, Filled, Pointed, At, Over, Hit, Got}
+use Rattle.fn_layout.specs.Tree.{aggregator, members}
+use Rattle.fn_core.specs.declared.Event.{Event}
+use Rattle.fn_core.specs.declared.Start.{Start}
+use Rattle.fn_core.specs.declared.Move.{Move}
+use Rattle.fn_core.specs.declared.Move.TheVariants.{Exchange}
+use Rattle.fn_core.specs.declared.Position.TheVariants.{Climbing, Deciding}
+use Rattle.fn_core.specs.declared.answer.CoreStep.{CoreStep}
+use Rattle.fn_core.specs.declared.answer.CoreStep.TheVariants as told
+use Rattle.fn_core.specs.State.{State, opened, stage}
+use Rattle.fn_core.specs.Machine.{Legal}
+use Rattle.fn_core.specs.Bound.{rank, visited_by, steps_left, steps_left_by}
+use Rattle.fn_core.specs.Positions.{is_out, IsClimbing}
+use Rattle.fn_core.specs.Laws.{HoldsRows}
+use Rattle.fn_core.specs.Calls.{CoreLog, state_in, IsLegal, HasCall, Follows, HasFewLeft}
+use Rattle.fn_core.specs.Polls.{is_going, is_exchange, exchanges}
+use Rattle.fn_core.proofs.Members.{members_few}
+use Rattle.fn_core.proofs.Whole.{stages_of, climbing}
+use Rattle.fn_core.proofs.Laws.{holds}
+use Rattle.fn_core.proofs.Follows.{legal_parts, in_call}
+use Rattle.fn_table.specs.Seen.{PassView, event, with_log}
+use Rattle.fn_climb.specs.Next.{IsNext}
+use Rattle.fn_climb.specs.Steps.{HasSameCall, Went}
+use Rattle.fn_climb.specs.Turns.{GoesOn, Polled}
+use Rattle.fn_climb.proofs.Onward.{joined_from}
+
+-- no aggregator has more rows than all passes have
+pub all_rows : (start : Start) (pass : ℕ) → HoldsRows start pass (start.shape.passes * start.shape.rows)
+all_rows start pass level = mul-le (members start.shape level (aggregator start.shape pass level)) start.shape.rows start.shape.passes start.shape.rows (members_few start.shape level (aggregator start.shape pass level)) (omega arith)
+
+-- a member that stands somewhere has a step left
+rank_some : (n visited : ℕ) (g : Stage) → is_out g ≡ false → 1 ≤ rank n visited g
+rank_some n visited Out is = absurd (false≢true (sym is))
+rank_some n visited (Saw seen) is = omega arith
+rank_some n visited (Told seen) is = omega arith
+rank_some n visited (Waiting at) is = omega arith
+rank_some n visited (Lead at) is = omega arith
+rank_some n visited (Late at) is = omega arith
+rank_some n visited (Shut at hi) is = omega arith
+rank_some n visited (Based at hi b) is = omega arith
+rank_some n visited (Headed at hi b h) is = omega arith
+rank_some n visited (FilledLo at hi b h r) is = omega arith
+rank_some n visited (FilledBase at hi b h r) is = omega arith
+rank_some n visited (Filled at hi b r) is = omega arith
+rank_some n visited (Pointed at hi b r) is = omega arith
+rank_some n visited (At at r) is = omega arith
+rank_some n visited (Over at r) is = omega arith
+rank_some n visited (Hit at r lo) is = omega arith
+rank_some n visited (Got b ahead) is = omega arith
+
+-- so a call has a step left
+some_left : (core : CoreLog) (p n : ℕ) → IsLegal core → p < core.start.shape.passes → HasCall core p → 1 ≤ steps_left core.start (state_in core) p n
+some_left core p n legal range u = ⊎_elim climbs decides (in_call core.start core.log legal.0 legal.1 p range u)
+  where
+    s : State
+    s = state_in core
+
+    climbs : (kind : Kind) × (level : ℕ) × ((s.callers p).position ≡ Climbing kind level) → 1 ≤ steps_left core.start s p n
+    climbs (kind, level, is) =
+        let up : IsClimbing core.start.shape.levels (stages_of core.start s p) kind level = climbing core.start legal.0 s (holds core.start core.log legal.0 legal.1).0 p kind level is in
+        omega (arith, ap (steps_left_by core.start s p n) is, rank_some n (visited_by core.start s p kind level) (stage core.start s kind level p) up.there)
+
+    decides : (kind : Kind) × (level word : ℕ) × ((s.callers p).position ≡ Deciding kind level word) → 1 ≤ steps_left core.start s p n
+    decides (kind, level, word, is) = omega (arith, ap (steps_left_by core.start s p n) is)
+
+-- what begins a list begins each that goes on from it
+pub prefix_on : (xs ys zs : List Event) → IsPrefix xs ys → IsPrefix ys zs → IsPrefix xs zs
+prefix_on xs ys zs (a, e) (b, f) = (a ++ b, sym (append_assoc xs a b) ∙ ap (λ (l : List Event). l ++ b) e ∙ f)
+
+-- a pass with another log
+abbrev pub at : PassView → List Event → PassView
+at p log = record p { seen = with_log p log }
+
+-- The steps of a poll so far, after which the pass has this log
+pub record SoFarAt (p : PassView) (log : List Event) : Type 0 where
+  pub steps : List Move
+  pub goes : GoesOn p steps (at p log)
+  pub few : (n : ℕ) → HoldsRows p.seen.start p.number n → length steps + steps_left p.seen.start (state_in (with_log p log)) p.number n ≤ steps_left p.seen.start (state_in p.seen) p.number n
+  pub once : (exchanges steps ≡ 0) ⊎ ((exchanges steps ≡ 1) × ((n : ℕ) → HoldsRows p.seen.start p.number n → steps_left p.seen.start (state_in (with_log p log)) p.number n < 8 * p.seen.start.shape.levels))
+  pub begins : IsPrefix p.seen.log log
+  pub same : HasSameCall p (at p log)
+
+abbrev pub SoFar : PassView → PassView → Type 0
+SoFar p r = (log : List Event) × (r ≡ at p log) × SoFarAt p log
+
+pub sofar_none : (p : PassView) → SoFar p p
+sofar_none p = (p.seen.log, refl, record { steps = []; goes = refl; few = λ n rows. omega arith; once = inl refl; begins = prefix_refl p.seen.log; same = record { made = refl; last = refl; left = refl } })
+
+goes_more : (p r s : PassView) (steps : List Move) → GoesOn p steps r → (w : Went r told.Going s) → GoesOn p (steps ++ w.step ∷ []) s
+goes_more p r s [] is w = let last = subst (λ (v : PassView). (x : Went v told.Going s) × (x.step ≡ w.step)) is (w, refl) in (s, last.0, last.1, refl)
+goes_more p r s (step ∷ steps) goes w = (goes.0, goes.1, goes.2, goes_more goes.0 r s steps goes.3 w)
+
+-- one more step, which may be an exchange
+exchanges_more : (steps : List Move) (step : Move) → exchanges (steps ++ step ∷ []) ≡ exchanges steps + (if is_exchange step then 1 else 0)
+exchanges_more [] step = by (is_exchange step)
+  where
+    by : (b : Bool) → (if b then 1 else 0) ≡ 0 + (if b then 1 else 0)
+    by true = refl
+    by false = refl
+exchanges_more (first ∷ steps) step = by (is_exchange first) (exchanges_more steps step)
+  where
+    by : (b : Bool) → exchanges (steps ++ step ∷ []) ≡ exchanges steps + (if is_exchange step then 1 else 0)
+        → (if b then suc (exchanges (steps ++ step ∷ [])) else exchanges (steps ++ step ∷ [])) ≡ (if b then suc (exchanges steps) else exchanges steps) + (if is_exchange step then 1 else 0)
+    by true e = omega (arith, e)
+    by false e = e
+
+exchange_is : (step : Move) → is_exchange step ≡ true → (kind : Kind) × (amount : ℕ) × (step ≡ Exchange kind amount)
+exchange_is (Exchange kind amount) is = (kind, amount, refl)
+exchange_is _ is = absurd (false≢true is)
+
+-- the same call all along
+same_on : (p q r : PassView) → HasSameCall p q → HasSameCall q r → HasSameCall p r
+same_on p q r a b = record { made = b.made ∙ a.made; last = b.last ∙ a.last; left = b.left ∙ a.left }
+
+module _ (p : PassView) (log : List Event) (so : SoFarAt p log) where
+  abbrev now : PassView
+  now = at p log
+
+  abbrev left_now : ℕ → ℕ
+  left_now n = steps_left p.seen.start (state_in (with_log p log)) p.number n
+
+  abbrev few_rows : HoldsRows p.seen.start p.number (p.seen.start.shape.passes * p.seen.start.shape.rows)
+  few_rows = all_rows p.seen.start p.number
+
+  -- an exchange comes with just so many steps left
+  at_exchange : (step : Move) → IsNext now step → HasFewLeft (with_log p log) p.number → is_exchange step ≡ true → (n : ℕ) → HoldsRows p.seen.start p.number n → left_now n ≡ 8 * p.seen.start.shape.levels
+  at_exchange step (inl next) few is n rows = let e = exchange_is step is in (few n rows).1 e.0 e.1 (next ∙ e.2)
+  at_exchange step (inr other) few is n rows = absurd (false≢true (sym (ap is_exchange other.3) ∙ is))
+
+  -- so there is none after another
+  at_most_one : (step : Move) → IsNext now step → HasFewLeft (with_log p log) p.number → exchanges (so.steps ++ step ∷ []) ≤ 1
+  at_most_one step next few = by (is_exchange step) refl so.once
+    where
+      count : exchanges (so.steps ++ step ∷ []) ≡ exchanges so.steps + (if is_exchange step then 1 else 0)
+      count = exchanges_more so.steps step
+
+      by : (b : Bool) → is_exchange step ≡ b → (exchanges so.steps ≡ 0) ⊎ ((exchanges so.steps ≡ 1) × ((n : ℕ) → HoldsRows p.seen.start p.number n → left_now n < 8 * p.seen.start.shape.levels)) → exchanges (so.steps ++ step ∷ []) ≤ 1
+      by true is (inl none) = let c = count ∙ ap (λ (b : Bool). exchanges so.steps + (if b then 1 else 0)) is in omega (arith, c, none)
+      by true is (inr one) = absurd (let l = one.1 (p.seen.start.shape.passes * p.seen.start.shape.rows) few_rows in omega (arith, l, at_exchange step next few is (p.seen.start.shape.passes * p.seen.start.shape.rows) few_rows))
+      by false is (inl none) = let c = count ∙ ap (λ (b : Bool). exchanges so.steps + (if b then 1 else 0)) is in omega (arith, c, none)
+      by false is (inr one) = let c = count ∙ ap (λ (b : Bool). exchanges so.steps + (if b then 1 else 0)) is in omega (arith, c, one.0)
+
+  -- one more step that leaves the call going
+  module _ (s : PassView) (w : Went now told.Going s) where
+    after : List Event
+    after = w.stepped.before ++ event p.number (w.step) ∷ []
+
+    s_is : s ≡ at p after
+    unfolding after
+    s_is = w.stepped.now
+
+    left_after : (n : ℕ) → HoldsRows p.seen.start p.number n → steps_left p.seen.start (state_in (with_log p after)) p.number n < left_now n
+    left_after n rows = subst (λ (v : PassView). steps_left v.seen.start (state_in v.seen) p.number n < left_now n) s_is (w.follows.1 n rows)
+
+    once_more : (exchanges (so.steps ++ w.step ∷ []) ≡ 0) ⊎ ((exchanges (so.steps ++ w.step ∷ []) ≡ 1) × ((n : ℕ) → HoldsRows p.seen.start p.number n → steps_left p.seen.start (state_in (with_log p after)) p.number n < 8 * p.seen.start.shape.levels))
+    once_more = by (is_exchange (w.step)) refl so.once
+      where
+        count : exchanges (so.steps ++ w.step ∷ []) ≡ exchanges so.steps + (if is_exchange (w.step) then 1 else 0)
+        count = exchanges_more so.steps (w.step)
+
+        by : (b : Bool) → is_exchange (w.step) ≡ b → (exchanges so.steps ≡ 0) ⊎ ((exchanges so.steps ≡ 1) × ((n : ℕ) → HoldsRows p.seen.start p.number n → left_now n < 8 * p.seen.start.shape.levels))
+            → (exchanges (so.steps ++ w.step ∷ []) ≡ 0) ⊎ ((exchanges (so.steps ++ w.step ∷ []) ≡ 1) × ((n : ℕ) → HoldsRows p.seen.start p.number n → steps_left p.seen.start (state_in (with_log p after)) p.number n < 8 * p.seen.start.shape.levels))
+        by true is (inl none) =
+            let c = count ∙ ap (λ (b : Bool). exchanges so.steps + (if b then 1 else 0)) is in
+            inr (omega (arith, c, none), λ n rows. omega (arith, left_after n rows, at_exchange w.step w.next w.few is n rows))
+        by true is (inr one) = absurd (let l = one.1 (p.seen.start.shape.passes * p.seen.start.shape.rows) few_rows in omega (arith, l, at_exchange w.step w.next w.few is (p.seen.start.shape.passes * p.seen.start.shape.rows) few_rows))
+        by false is (inl none) = let c = count ∙ ap (λ (b : Bool). exchanges so.steps + (if b then 1 else 0)) is in inl (omega (arith, c, none))
+        by false is (inr one) =
+            let c = count ∙ ap (λ (b : Bool). exchanges so.steps + (if b then 1 else 0)) is in
+            inr (omega (arith, c, one.0), λ n rows. let l = one.1 n rows in omega (arith, left_after n rows, l))
+
+    more : SoFarAt p after
+    more = record {
+      steps = so.steps ++ w.step ∷ [];
+      goes = subst (GoesOn p (so.steps ++ w.step ∷ [])) s_is (goes_more p now s so.steps so.goes w);
+      few = λ n rows. let f = so.few n rows in omega (arith, f, left_after n rows, length-append so.steps (w.step ∷ []));
+      once = once_more;
+      begins = let l : IsPrefix log s.seen.log = w.later.begins in subst (λ (v : PassView). IsPrefix p.seen.log v.seen.log) s_is (prefix_on p.seen.log log s.seen.log so.begins l);
+      same = same_on p now (at p after) so.same (subst (HasSameCall now) s_is w.same);
+    }
+
+    pub sofar_more : SoFar p s
+    sofar_more = (after, s_is, more)
+
+-- a poll begins with few steps left
+few_first : (p r : PassView) (steps : List Move) → GoesOn p steps r → HasFewLeft r.seen r.number → HasFewLeft p.seen p.number
+few_first p r [] is few = subst (λ (v : PassView). HasFewLeft v.seen v.number) is few
+few_first p r (step ∷ steps) goes few = goes.1.few
+
+module _ (p : PassView) (log : List Event) (so : SoFarAt p log) (q : PassView) where
+  follows_on : (told : CoreStep) → Follows (with_log p log) q.seen p.number told → is_going told ≡ false → Follows p.seen q.seen p.number told
+  follows_on (told.Ready reply) f ends = (f.0, f.1, joined_from p.seen.start p.seen.log log q.seen p.number so.begins f.2)
+  follows_on (told.NotYet why) f ends = f
+  follows_on told.Going f ends = absurd (false≢true (sym ends))
+
+  -- the step that ends a poll
+  pub polled_at : (told : CoreStep) → Went (at p log) told q → is_going told ≡ false → Polled p told q
+  polled_at told w ends = record {
+    steps = so.steps;
+    until = at p log;
+    goes = so.goes;
+    last = w;
+    ends = ends;
+    short = λ n rows.
+        let few = so.few n rows in
+        let some_steps : 1 ≤ steps_left p.seen.start (state_in (with_log p log)) p.number n = some_left (with_log p log) p.number n (legal_log w) w.inside w.call in
+        let most = (few_first p (at p log) so.steps so.goes w.few n rows).0 in
+        omega (arith, few, some_steps, most);
+    once = at_most_one p log so w.step w.next w.few;
+    later = record { table = w.later.table; number = w.later.number; start = w.later.start; begins = prefix_on p.seen.log log q.seen.log so.begins w.later.begins; legal = w.later.legal };
+    follows = follows_on told w.follows ends;
+    replied = w.replied;
+    same = same_on p (at p log) q so.same w.same;
+  }
+    where
+      legal_log : Went (at p log) told q → IsLegal (with_log p log)
+      legal_log w =
+          let t = w.stepped in
+          let t_step : Move = w.step in
+          let whole = subst (λ (v : PassView). IsLegal v.seen) t.now t.legal in
+          let before = (legal_parts p.seen.start t.before (event p.number t_step ∷ []) (opened p.seen.start) whole.1).0 in
+          (whole.0, (legal_parts p.seen.start log t.begins.0 (opened p.seen.start) (subst (λ (l : List Event). Legal p.seen.start l (opened p.seen.start)) (sym t.begins.1) before)).0)
+
+pub polled : (p r q : PassView) (told : CoreStep) → SoFar p r → Went r told q → is_going told ≡ false → Polled p told q
+polled p r q told (log, is, so) w ends = polled_at p log so q told (subst (λ (v : PassView). Went v told q) is w) ends
+
+pub sofar_on : (p r s : PassView) → SoFar p r → Went r told.Going s → SoFar p s
+sofar_on p r s (log, is, so) w = sofar_more p log so s (subst (λ (v : PassView). Went v told.Going s) is w)
+
+-- more steps than a call has left
+abbrev pub left_in : PassView → ℕ
+left_in p = steps_left p.seen.start (state_in p.seen) p.number (p.seen.start.shape.passes * p.seen.start.shape.rows)
+
+pub falls : (r s : PassView) → Went r told.Going s → left_in s < left_in r
+falls r s w =
+    let fewer = w.follows.1 (r.seen.start.shape.passes * r.seen.start.shape.rows) (all_rows r.seen.start r.number) in
+    let same : left_in s ≡ steps_left s.seen.start (state_in s.seen) r.number (r.seen.start.shape.passes * r.seen.start.shape.rows) =
+    (λ i. steps_left s.seen.start (state_in s.seen) (w.later.number i) ((w.later.start i).shape.passes * (w.later.start i).shape.rows)) in
+    omega (arith, fewer, same)

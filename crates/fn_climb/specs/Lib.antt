@@ -1,0 +1,5 @@
+pub mod Next
+pub mod Course
+pub mod Steps
+pub mod Turns
+pub mod Begin

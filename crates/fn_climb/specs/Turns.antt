@@ -1,0 +1,38 @@
+-- What a poll tells.
+--     GoesOn pass steps after      the pass took these steps of its call, each of which left it going
+--     Polled pass told after      .. and one more, which told this
+use Rattle.std.specs.Prelude.{◌≡◌, ℕ, suc, ◌+◌, ◌*◌, ◌≤◌, false, List, [], ◌∷◌, ◌++◌, length}
+use Rattle.fn_core.specs.declared.Move.{Move}
+use Rattle.fn_core.specs.declared.answer.CoreStep.{CoreStep}
+use Rattle.fn_core.specs.declared.answer.CoreStep.TheVariants as told
+use Rattle.fn_core.specs.Laws.{HoldsRows}
+use Rattle.fn_core.specs.Calls.{Follows}
+use Rattle.fn_core.specs.Polls.{is_going, exchanges}
+use Rattle.fn_table.specs.Seen.{PassView}
+use Rattle.fn_climb.specs.Steps.{IsLater, HasSameCall, HasReplied, Went}
+use Rattle.fn_climb.specs.declared.polling.Turn.{Turn}
+use Rattle.fn_climb.specs.declared.polling.Turn.TheVariants.{Ready, NotYet}
+
+-- the pass took these steps of its call, one after the other, and each left the call going
+abbrev pub GoesOn : PassView → List Move → PassView → Type 0
+GoesOn p [] q = q ≡ p
+GoesOn p (step ∷ steps) q = (r : PassView) × (w : Went p told.Going r) × (w.step ≡ step) × GoesOn r steps q
+
+-- The pass took steps of its call up to the first that didn't leave it going, which told this: at most levels * (2 * n + 14), where no aggregator on its way has more than n rows, and at most one exchange. What was told is so
+pub record Polled (p : PassView) (told : CoreStep) (q : PassView) : Type 0 where
+  pub steps : List Move
+  pub until : PassView
+  pub goes : GoesOn p steps until
+  pub last : Went until told q
+  pub ends : is_going told ≡ false
+  pub short : (n : ℕ) → HoldsRows p.seen.start p.number n → suc (length steps) ≤ p.seen.start.shape.levels * (2 * n + 14)
+  pub once : exchanges (steps ++ last.step ∷ []) ≤ 1
+  pub later : IsLater p q
+  pub follows : Follows p.seen q.seen p.number told
+  pub replied : HasReplied q told
+  pub same : HasSameCall p q
+
+-- what a poll answers
+abbrev pub Answers : PassView → Turn → Type 0
+Answers p (Ready q reply) = Polled p (told.Ready reply) q
+Answers p (NotYet q why) = Polled p (told.NotYet why) q

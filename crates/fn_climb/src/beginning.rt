@@ -1,0 +1,157 @@
+//! How a call begins: it finds a row at each level, and arrives at its leaf.
+ghost use Rattle.std.specs.Prelude.{◌≡◌, ◌<◌};
+ghost use Rattle.fn_layout.specs.Tree.{IsLevel};
+ghost use Rattle.fn_layout.specs.Words.{IsSlot};
+ghost use Rattle.fn_core.specs.Machine.{IsChange, MaySpend};
+ghost use Rattle.fn_core.specs.Begin.{is_other};
+ghost use Rattle.fn_core.specs.Calls.{state_in, IsIdle};
+ghost use Rattle.fn_table.specs.Seen.{IsOf, own_of};
+ghost use Rattle.fn_climb.specs.Begin.{AreOpen, Arrived, Answers, RowTried, LevelTried, RowsTried};
+
+use crate::course::Course;
+use crate::pending::Pending;
+use fn_core::Blocked;
+use fn_layout::{Kind, Shape};
+use fn_rows::{Stage, lets};
+use fn_table::{FunnelTable, Pass, announce, arrive, scan, see};
+
+/// What the beginning of a call answers.
+#[derive(Drop)]
+pub enum Begun {
+    /// The call has arrived at its leaf, and its amount is spent.
+    Waiting(Pending),
+    /// At some level each row of the pass was blocked, the last of them by this load.
+    NoRow(Pass, Blocked),
+}
+
+/// Begins a call: it waits at its leaf, or at some level each row of the pass is blocked.
+pub fn begin(table: &FunnelTable, mut pass: Pass, kind: Kind, amount: u64) -> Begun
+    requires together { IsOf table.now pass }
+    requires idle { IsIdle pass.seen pass.number }
+    requires change { IsChange kind }
+    requires amount { MaySpend (state_in pass.seen) pass.number amount }
+    ensures { Answers pass kind amount result }
+{
+    match find_rows(table, &mut pass, kind) {
+        Ok(rows) => Begun::Waiting(arrive_at_leaf(table, pass, kind, amount, rows)),
+        Err(blocked) => Begun::NoRow(pass, blocked),
+    }
+}
+
+// The call arrives at its leaf, with an open row for each level.
+fn arrive_at_leaf(
+    table: &FunnelTable,
+    mut pass: Pass,
+    kind: Kind,
+    amount: u64,
+    rows: [u32; 3],
+) -> Pending
+    requires together { IsOf table.now pass }
+    requires idle { IsIdle pass.seen pass.number }
+    requires change { IsChange kind }
+    requires amount { MaySpend (state_in pass.seen) pass.number amount }
+    requires open_rows { AreOpen pass kind rows }
+    ensures { Arrived pass kind amount result }
+{
+    let _number = pass.number();
+    let seen = see(table, &mut pass, kind, 1);
+    announce(table, &mut pass, kind, 1, seen);
+    let at = arrive(table, &mut pass, kind, 1, amount);
+    let course = Course {
+        kind,
+        level: 1,
+        word: None,
+        stages: [Stage::Waiting(at), Stage::Out, Stage::Out],
+        rows,
+    };
+    Pending { pass, course }
+}
+
+// Tries the levels up to the first without an open row, and gives the first open row of each, or the load that refuses the call.
+fn find_rows(table: &FunnelTable, pass: &mut Pass, kind: Kind) -> Result<[u32; 3], Blocked>
+    requires together { IsOf table.now pass.old }
+    requires idle { IsIdle pass.old.seen pass.old.number }
+    requires change { IsChange kind }
+    ensures { RowsTried pass.old kind result pass.new }
+{
+    let _number = pass.number();
+    let mut rows = [0; 3];
+    for level in 1..table.shape().levels() + 1 {
+        match find_row(table, pass, kind, level) {
+            Ok(row) => rows[(level - 1) as usize] = row,
+            Err(blocked) => return Err(blocked),
+        }
+    }
+    Ok(rows)
+}
+
+// Tries the rows of a level up to the first open one, and gives that, or the last load that blocked one.
+fn find_row(table: &FunnelTable, pass: &mut Pass, kind: Kind, level: u32) -> Result<u32, Blocked>
+    requires together { IsOf table.now pass.old }
+    requires idle { IsIdle pass.old.seen pass.old.number }
+    requires change { IsChange kind }
+    requires level { IsLevel table.now.start.shape level }
+    ensures { LevelTried pass.old kind level result pass.new }
+{
+    let _number = pass.number();
+    let mut last = Blocked {
+        level,
+        row: 0,
+        pass: 0,
+        announced: 0,
+    };
+    for row in 0..table.shape().rows() {
+        match try_row(table, pass, kind, level, row) {
+            None => return Ok(row),
+            Some(blocked) => last = blocked,
+        }
+    }
+    Err(last)
+}
+
+// Tries a row, which is open without a scan where it was never filled, and gives the load that blocks it.
+fn try_row(
+    table: &FunnelTable,
+    pass: &mut Pass,
+    kind: Kind,
+    level: u32,
+    row: u32,
+) -> Option<Blocked>
+    requires together { IsOf table.now pass.old }
+    requires idle { IsIdle pass.old.seen pass.old.number }
+    requires change { IsChange kind }
+    requires level { IsLevel table.now.start.shape level }
+    requires row { row < table.now.start.shape.rows }
+    ensures { RowTried pass.old kind level row result pass.new }
+{
+    let number = pass.number();
+    let end = pass.row_end(table, kind, level, row);
+    if end == 0 {
+        return None;
+    }
+    let shape = table.shape();
+    for other in 0..shape.passes() {
+        if !is_other(shape, level, number, other) {
+            continue;
+        }
+        let word = scan(table, pass, kind, level, other);
+        if !lets(word, end) {
+            return Some(Blocked {
+                level,
+                row,
+                pass: other,
+                announced: word - 1,
+            });
+        }
+    }
+    None
+}
+
+// Whether a pass is another one of the pass's aggregator.
+fn is_other(shape: Shape, level: u32, pass: u32, other: u32) -> bool
+    requires level { IsLevel shape level }
+    requires in_range { (pass < shape.passes) × (other < shape.passes) }
+    ensures { result ≡ is_other shape level pass other }
+{
+    shape.aggregator_of(other, level) == shape.aggregator_of(pass, level) && other != pass
+}

@@ -1,0 +1,19 @@
+//! A call that goes through aggregators, as a state machine on a funnel's table: it begins, and takes one step at a time until it has its reply.
+#![tactic(auto)]
+
+mod at_level;
+mod beginning;
+mod course;
+mod pending;
+mod polling;
+mod row_words;
+
+pub use beginning::{Begun, begin};
+pub use fn_core::{Blocked, Why};
+pub use fn_layout::Kind;
+pub use fn_table::{FunnelTable, Pass};
+pub use pending::{Pending, Step};
+pub use polling::Turn;
+
+#[cfg(test)]
+mod tests;

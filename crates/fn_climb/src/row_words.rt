@@ -1,0 +1,71 @@
+// The words by which rows are named on the table, and their numbers at an aggregator.
+ghost use Rattle.std.specs.Prelude.{◌≡◌, ◌/◌, ◌<◌, ℕ};
+ghost use Rattle.fn_layout.specs.Tree.{members, IsLevel};
+ghost use Rattle.fn_layout.specs.Words.{IsAggregator, IsSlot};
+ghost use Rattle.fn_core.specs.Machine.{local_row};
+ghost use Rattle.fn_core.specs.Order.{own_row};
+ghost use Rattle.fn_core.specs.Words.{row_there, link, NamesMine};
+ghost use Rattle.fn_core.specs.After.{row_read};
+ghost use Rattle.fn_climb.specs.Course.{IsLink};
+
+use fn_layout::{Kind, Shape};
+
+/// The row with this number at an aggregator, by its number in the layout.
+pub fn row_there(shape: Shape, kind: Kind, level: u32, index: u32, row: u64) -> u32
+    requires aggregator { IsAggregator shape kind level index }
+    requires owned { row / shape.rows < members shape level index }
+    ensures { result ≡ row_there shape kind level index row }
+{
+    let rows = u64::from(shape.rows());
+    let pass = shape.pass_of(level, index, (row / rows) as u32);
+    shape.row_of(pass, kind, level, (row % rows) as u32)
+}
+
+/// The word that names a row on the table, by the word that names it at the aggregator.
+pub fn link(shape: Shape, kind: Kind, level: u32, index: u32, word: u64) -> u64
+    requires aggregator { IsAggregator shape kind level index }
+    requires mine { NamesMine shape level index word }
+    ensures { result ≡ link shape kind level index word }
+{
+    if word == 0 {
+        0
+    } else {
+        u64::from(row_there(shape, kind, level, index, word - 1)) + 1
+    }
+}
+
+/// The word that names a row at its aggregator, by the word that names it on the table.
+pub fn row_read(shape: Shape, word: u64) -> u64
+    requires { IsLink shape word }
+    ensures { result ≡ row_read shape word }
+{
+    if word == 0 {
+        return 0;
+    }
+    let row = word - 1;
+    let rows = u64::from(shape.rows());
+    let levels = u64::from(shape.levels());
+    let slot = row / rows;
+    let pass = slot / levels / 2;
+    let level = slot % levels + 1;
+    let member = shape.member(pass as u32, level as u32);
+    u64::from(member) * rows + row % rows + 1
+}
+
+/// The row of a pass that has this number at its aggregator, by its number in the layout.
+pub fn own_row(shape: Shape, pass: u32, kind: Kind, level: u32, row: u64) -> u32
+    requires { IsSlot shape pass kind level }
+    ensures { result ≡ own_row shape pass kind level row }
+{
+    let rest = row % u64::from(shape.rows());
+    shape.row_of(pass, kind, level, rest as u32)
+}
+
+/// The number at its aggregator of a row of a pass.
+pub fn local_row(shape: Shape, level: u32, pass: u32, row: u32) -> u64
+    requires { (pass < shape.passes) × IsLevel shape level }
+    ensures { result ≡ local_row shape level pass row }
+{
+    let rows = shape.rows();
+    u64::from(shape.member(pass, level) * rows + row % rows)
+}

@@ -1,0 +1,311 @@
+ghost use Rattle.std.specs.Prelude.{◌≡◌, IfSome, All};
+ghost use Rattle.fn_model.specs.declared.TheConstants.{NO_CAP};
+ghost use Rattle.fn_core.specs.Machine.{IsChange};
+ghost use Rattle.fn_core.specs.Calls.{IsIdle};
+ghost use Rattle.fn_table.specs.Seen.{IsOf, IsWhole, AreOpened};
+
+use super::*;
+use fn_layout::Shape;
+use fn_model::NO_CAP;
+use fn_table::direct;
+use std::test::*;
+
+// A call begins, and waits at its leaf.
+fn start(table: &FunnelTable, pass: Pass, kind: Kind, amount: u64) -> Option<Pending>
+    requires together { IsOf table.now pass }
+    requires idle { IsIdle pass.seen pass.number }
+    requires change { IsChange kind }
+    ensures { IfSome result (λ p. IsOf table.now p) }
+{
+    if amount < 1 || pass.allowance() < amount {
+        return None;
+    }
+    match begin(table, pass, kind, amount) {
+        Begun::Waiting(pending) => Some(pending),
+        Begun::NoRow(_, _) => None,
+    }
+}
+
+// A call is refused.
+fn refused(table: &FunnelTable, pass: Pass, kind: Kind, amount: u64) -> Option<(Pass, Blocked)>
+    requires together { IsOf table.now pass }
+    requires idle { IsIdle pass.seen pass.number }
+    requires change { IsChange kind }
+    ensures { IfSome result (λ r. IsOf table.now r.0 × IsIdle r.0.seen r.0.number) }
+{
+    if amount < 1 || pass.allowance() < amount {
+        return None;
+    }
+    match begin(table, pass, kind, amount) {
+        Begun::Waiting(_) => None,
+        Begun::NoRow(pass, blocked) => Some((pass, blocked)),
+    }
+}
+
+// A step that leaves the call going.
+fn goes(table: &FunnelTable, pending: Pending) -> Option<Pending>
+    requires { IsOf table.now pending }
+    ensures { IfSome result (λ p. IsOf table.now p) }
+{
+    match pending.step(table) {
+        Step::Going(pending) => Some(pending),
+        Step::Ready(_, _) | Step::NotYet(_, _) => None,
+    }
+}
+
+// So many of them.
+fn goes_on(table: &FunnelTable, mut pending: Pending, times: u32) -> Option<Pending>
+    requires { IsOf table.now pending }
+    ensures { IfSome result (λ p. IsOf table.now p) }
+{
+    for _ in 0..times {
+        pending = goes(table, pending)?;
+    }
+    Some(pending)
+}
+
+// A step that tells the call to wait.
+fn halts(table: &FunnelTable, pending: Pending) -> Option<(Pending, Why)>
+    requires { IsOf table.now pending }
+    ensures { IfSome result (λ r. IsOf table.now r.0) }
+{
+    match pending.step(table) {
+        Step::NotYet(pending, why) => Some((pending, why)),
+        Step::Ready(_, _) | Step::Going(_) => None,
+    }
+}
+
+// A poll that ends the call.
+fn replies(table: &FunnelTable, pending: Pending) -> Option<(Pass, u64)>
+    requires { IsOf table.now pending }
+    ensures { IfSome result (λ r. IsOf table.now r.0 × IsIdle r.0.seen r.0.number) }
+{
+    match pending.poll(table) {
+        Turn::Ready(pass, reply) => Some((pass, reply)),
+        Turn::NotYet(_, _) => None,
+    }
+}
+
+// A poll that tells the call to wait.
+fn waits(table: &FunnelTable, pending: Pending) -> Option<(Pending, Why)>
+    requires { IsOf table.now pending }
+    ensures { IfSome result (λ r. IsOf table.now r.0) }
+{
+    match pending.poll(table) {
+        Turn::NotYet(pending, why) => Some((pending, why)),
+        Turn::Ready(_, _) => None,
+    }
+}
+
+// The last of some passes.
+fn last_of(table: &FunnelTable, passes: &mut Vec<Pass>) -> Option<Pass>
+    requires together { All (λ p. IsOf table.now p) passes.old.items }
+    requires idle { All IsWhole passes.old.items }
+    ensures together { All (λ p. IsOf table.now p) passes.new.items }
+    ensures idle { All IsWhole passes.new.items }
+    ensures pass { IfSome result (λ p. IsOf table.now p × IsIdle p.seen p.number) }
+{
+    passes.pop()
+}
+
+// A member polls before its delegate.
+fn member_first(table: &FunnelTable, mut passes: Vec<Pass>) -> Option<(Why, u64, u64, u64)>
+    requires { AreOpened table.now passes.items }
+{
+    let third = last_of(table, &mut passes)?;
+    let second = last_of(table, &mut passes)?;
+    let first = last_of(table, &mut passes)?;
+    let first = start(table, first, Kind::Add, 5)?;
+    let second = start(table, second, Kind::Add, 7)?;
+    let third = start(table, third, Kind::Add, 1)?;
+    let (second, why) = waits(table, second)?;
+    let (_, one) = replies(table, first)?;
+    let (_, two) = replies(table, second)?;
+    let (_, three) = replies(table, third)?;
+    Some((why, one, two, three))
+}
+
+// The replies of two calls that share a batch.
+fn two_replies(
+    table: &FunnelTable,
+    mut passes: Vec<Pass>,
+    kind: Kind,
+    amount: u64,
+    other: u64,
+) -> Option<(u64, u64)>
+    requires opened { AreOpened table.now passes.items }
+    requires change { IsChange kind }
+{
+    let second = last_of(table, &mut passes)?;
+    let first = last_of(table, &mut passes)?;
+    let first = start(table, first, kind, amount)?;
+    let second = start(table, second, kind, other)?;
+    let (_, one) = replies(table, first)?;
+    let (_, two) = replies(table, second)?;
+    Some((one, two))
+}
+
+// A direct addition comes between a load and its exchange.
+fn loses_once(table: &FunnelTable, mut passes: Vec<Pass>) -> Option<(Why, u64)>
+    requires opened { AreOpened table.now passes.items }
+    requires cap { table.now.start.cap ≡ NO_CAP }
+{
+    let mut second = last_of(table, &mut passes)?;
+    let first = last_of(table, &mut passes)?;
+    let first = start(table, first, Kind::Sub, 4)?;
+    let first = goes_on(table, first, 3)?;
+    let _number = second.number();
+    if second.allowance() < 1 {
+        return None;
+    }
+    direct(table, &mut second, 1);
+    let (first, why) = halts(table, first)?;
+    let (_, reply) = replies(table, first)?;
+    Some((why, reply))
+}
+
+// An addition of 1 whose poll ends it.
+fn adds_one(table: &FunnelTable, pass: Pass) -> Option<(Pass, u64)>
+    requires together { IsOf table.now pass }
+    requires idle { IsIdle pass.seen pass.number }
+    ensures { IfSome result (λ r. IsOf table.now r.0 × IsIdle r.0.seen r.0.number) }
+{
+    let pending = start(table, pass, Kind::Add, 1)?;
+    replies(table, pending)
+}
+
+// One pass stalls, the other runs out of rows, and then a row is free again.
+fn runs_out(table: &FunnelTable, mut passes: Vec<Pass>) -> Option<(u64, u64, Blocked, u64, u64)>
+    requires { AreOpened table.now passes.items }
+{
+    let second = last_of(table, &mut passes)?;
+    let first = last_of(table, &mut passes)?;
+    let first = start(table, first, Kind::Add, 1)?;
+    let second = start(table, second, Kind::Add, 1)?;
+    let (first, one) = replies(table, first)?;
+    let (first, two) = adds_one(table, first)?;
+    let (first, blocked) = refused(table, first, Kind::Add, 1)?;
+    let (_, three) = replies(table, second)?;
+    let (_, four) = adds_one(table, first)?;
+    Some((one, two, blocked, three, four))
+}
+
+// Two leaf batches go in one step on the main word.
+fn two_levels(table: &FunnelTable, mut passes: Vec<Pass>) -> Option<(u64, u64, u64, u64)>
+    requires { AreOpened table.now passes.items }
+{
+    let fourth = last_of(table, &mut passes)?;
+    let third = last_of(table, &mut passes)?;
+    let second = last_of(table, &mut passes)?;
+    let first = last_of(table, &mut passes)?;
+    let first = start(table, first, Kind::Add, 1)?;
+    let third = start(table, third, Kind::Add, 2)?;
+    let second = start(table, second, Kind::Add, 4)?;
+    let fourth = start(table, fourth, Kind::Add, 8)?;
+    let first = goes_on(table, first, 5)?;
+    let second = goes_on(table, second, 5)?;
+    let (_, one) = replies(table, first)?;
+    let (_, two) = replies(table, second)?;
+    let (_, three) = replies(table, third)?;
+    let (_, four) = replies(table, fourth)?;
+    Some((one, two, three, four))
+}
+
+#[test]
+fn a_member_polls_before_its_delegate(rt: HostRuntime) -> Result<(), Fail> {
+    if let Ok(shape) = Shape::new(3, 1, 1, 2)
+        && let Ok((table, passes)) = FunnelTable::open(rt.alloc(), shape, 10, &[5, 7, 1])
+    {
+        let behind = Why::Behind { done: 0, at: 5 };
+        assert_eq!(rt; member_first(&table, passes), Some((behind, 10, 15, 22)));
+        return Ok(());
+    }
+    assert!(&rt; false);
+    Ok(())
+}
+
+#[test]
+fn a_batch_passes_zero_in_its_middle(rt: HostRuntime) -> Result<(), Fail> {
+    if let Ok(shape) = Shape::new(2, 1, 1, 2)
+        && let Ok((table, passes)) = FunnelTable::open(rt.alloc(), shape, 6, &[4, 4])
+    {
+        assert_eq!(rt; two_replies(&table, passes, Kind::Sub, 4, 4), Some((6, 2)));
+        return Ok(());
+    }
+    assert!(&rt; false);
+    Ok(())
+}
+
+#[test]
+fn additions_stop_at_the_cap(rt: HostRuntime) -> Result<(), Fail> {
+    if let Ok(shape) = Shape::new(2, 1, 1, 2)
+        && let Ok((table, passes)) = FunnelTable::open_capped(rt.alloc(), shape, 8, 10, &[20, 20])
+    {
+        assert_eq!(rt; two_replies(&table, passes, Kind::Add, 5, 4), Some((8, 10)));
+        return Ok(());
+    }
+    assert!(&rt; false);
+    Ok(())
+}
+
+#[test]
+fn an_exchange_is_lost_and_tried_again(rt: HostRuntime) -> Result<(), Fail> {
+    if let Ok(shape) = Shape::new(2, 1, 1, 2)
+        && let Ok((table, passes)) = FunnelTable::open(rt.alloc(), shape, 6, &[4, 1])
+    {
+        let lost = Why::Lost {
+            loaded: 6,
+            found: 7,
+        };
+        assert_eq!(rt; loses_once(&table, passes), Some((lost, 7)));
+        return Ok(());
+    }
+    assert!(&rt; false);
+    Ok(())
+}
+
+#[test]
+fn rows_run_out_and_come_back(rt: HostRuntime) -> Result<(), Fail> {
+    if let Ok(shape) = Shape::new(2, 1, 1, 2)
+        && let Ok((table, passes)) = FunnelTable::open(rt.alloc(), shape, 0, &[4, 1])
+    {
+        let blocked = Blocked {
+            level: 1,
+            row: 1,
+            pass: 1,
+            announced: 0,
+        };
+        assert_eq!(rt; runs_out(&table, passes), Some((0, 2, blocked, 1, 3)));
+        return Ok(());
+    }
+    assert!(&rt; false);
+    Ok(())
+}
+
+#[test]
+fn two_leaf_batches_go_in_one_step(rt: HostRuntime) -> Result<(), Fail> {
+    if let Ok(shape) = Shape::new(4, 2, 2, 2)
+        && let Ok((table, passes)) = FunnelTable::open(rt.alloc(), shape, 100, &[1, 4, 2, 8])
+    {
+        assert_eq!(rt; two_levels(&table, passes), Some((100, 103, 101, 107)));
+        return Ok(());
+    }
+    assert!(&rt; false);
+    Ok(())
+}
+
+#[test]
+fn the_greatest_value_is_reached(rt: HostRuntime) -> Result<(), Fail> {
+    let opening = 9223372036854775806;
+    if let Ok(shape) = Shape::new(1, 1, 1, 1)
+        && let Ok((table, mut passes)) = FunnelTable::open(rt.alloc(), shape, opening, &[1])
+        && let Some(pass) = last_of(&table, &mut passes)
+        && let Some((pass, reply)) = adds_one(&table, pass)
+    {
+        assert_eq!(rt; reply, opening);
+        assert_eq!(rt; pass.allowance(), 0);
+        return Ok(());
+    }
+    assert!(&rt; false);
+    Ok(())
+}
