@@ -23,7 +23,7 @@ use Rattle.fn_core.specs.Batches.{has_come}
 use Rattle.fn_core.specs.Bound.{steps_left}
 use Rattle.fn_core.specs.Fields.{answer_of}
 use Rattle.fn_core.specs.Filling.{FillsAt}
-use Rattle.fn_core.specs.Calls.{CoreLog, state_in, IsLegal, HasCall, with_move, stage_for, told_by, step_answer, Follows, HasJoined, HasFewLeft}
+use Rattle.fn_core.specs.Calls.{CoreLog, state_in, IsLegal, HasCall, with_move, stage_for, told_by, step_answer, Follows, HasJoined}
 use Rattle.fn_core.proofs.Counted.{opened_counted}
 use Rattle.fn_core.proofs.Free.{free_rows_stay}
 use Rattle.fn_core.proofs.Grows.{replies_are_bounded, places_are_beyond}
@@ -177,9 +177,6 @@ module _ (p : PassView) (c : Course) (h : Holds p c) (step : Move) (n : ℕ) (q 
       | inl is ↦ subst (λ (m : Move). Follows before (with_move before p.number m) p.number (step_answer start (state_in before) p.number)) (next_before ∙ is) (follows start t.before legal_before.0 legal_before.1 p.number h.inside call_before)
       | inr other ↦ subst (Follows before (with_move before p.number step) p.number) (sym (tells ∙ ap (λ (m : Move). told_by start.cap m (stage_for start (state_in before) p.number m) (answer_of start (state_in before) p.number m)) other.3)) (fills_any other.1 other.3)
     ]
-
-    few_before : HasFewLeft before p.number
-    few_before = few_left start t.before legal_before.0 legal_before.1 p.number h.inside call_before
 
     -- what was logged since by others
     others : (more : List Event) × (p.seen.log ++ more ≡ t.before)

@@ -22,7 +22,7 @@ use Rattle.fn_core.specs.State.{Caller}
 use Rattle.fn_core.specs.Calls.{IsIdle}
 use Rattle.fn_layout.specs.Tree.{IsLevel}
 use Rattle.fn_climb.specs.Steps.{IsLater}
-use Rattle.fn_climb.specs.Begin.{IsOpen, AreOpen, HasBegun, Taken, Takes, scan_taken, row_takings, level_takings, scan_takings, finds_of, first_takings, IsLastLoad, RowsTried, Arrived, IsBeginning, IsHeld, IsRefused}
+use Rattle.fn_climb.specs.Begin.{EndsAtLeaf, IsOpen, AreOpen, HasBegun, Taken, Takes, scan_taken, row_takings, level_takings, scan_takings, finds_of, first_takings, IsLastLoad, RowsTried, Arrived, IsBeginning, IsHeld, IsRefused}
 use Rattle.fn_climb.proofs.Scans.{takes_on, later_on, idle_still}
 
 map-flat_map : {A B C : Type 0} (f : B → C) (g : A → List B) (xs : List A) → map f (flat_map g xs) ≡ flat_map (λ x. map f (g x)) xs
@@ -170,13 +170,14 @@ module _ (p : PassView) (kind : Kind) (amount : ℕ) where
       let row = tried.told.1 level (subst (λ (b : Start). IsLevel b.shape level) tried.still.later.start inside) in
       subst (λ (z : Start × ℕ). (slice_index_or rows (level - 1) 0 < z.0.shape.rows) × IsOpen z.0.shape z.1 (own_of q) kind level (slice_index_or rows (level - 1) 0)) (λ i. (sym tried.still.later.start i, sym tried.still.later.number i)) row
 
-  pub begun_waiting : (rows : List ℕ) (q r : PassView) → RowsTried p kind (Ok rows) q → Arrived q kind amount r → (takings : List Taken) × IsBeginning p kind amount takings r × HasBegun p kind amount r
+  pub begun_waiting : (rows : List ℕ) (q r : PassView) → RowsTried p kind (Ok rows) q → Arrived q kind amount r → (takings : List Taken) × IsBeginning p kind amount takings r × EndsAtLeaf kind amount takings × HasBegun p kind amount r
   begun_waiting rows q r tried arrived =
       let scans : List Taken = scan_takings p.seen.start.shape kind p.number (finds_of p kind tried.words) in
       let rest : List Taken = first_takings kind amount arrived.a arrived.b arrived.n in (
         scans ++ rest,
         begins tried.words rest r (takes_on p q r scans rest tried.takes arrived.takes) (later_on p q r tried.still.later arrived.later)
             (sym (ap (λ (o : Option ℕ). if is_none o then first_steps kind amount else []) tried.told.0)),
+        (scans, arrived.a, arrived.b, arrived.n, refl),
         record {
           waits = arrived.begun.waits;
           last = arrived.begun.last ∙ (λ i. let call : Call = record { pass = tried.still.later.number i; number = (tried.still.caller i).made; kind = kind; amount = amount } in call);

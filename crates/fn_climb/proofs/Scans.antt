@@ -74,8 +74,12 @@ module _ (q r : PassView) (kind : Kind) (level other n : ℕ) (t : Stepped q (Sc
 pub idle_still : (p q : PassView) → IsStill p q → IsIdle p.seen p.number → IsIdle q.seen q.number
 idle_still p q still idle = ap (λ (x : Caller). x.position) still.caller ∙ idle
 
+-- a pass stays one of its table
+pub of_later : (t : TableView) (p q : PassView) → IsLater p q → IsOf t p → IsOf t q
+of_later t p q later of = (later.table ∙ of.0, later.start ∙ of.1)
+
 pub of_still : (t : TableView) (p q : PassView) → IsStill p q → IsOf t p → IsOf t q
-of_still t p q still of = (still.later.table ∙ of.0, still.later.start ∙ of.1)
+of_still t p q still of = of_later t p q still.later of
 
 -- the pass may scan another one of its aggregator
 pub may_scan : (p q : PassView) (kind : Kind) (level x : ℕ) → IsStill p q → p.number < p.seen.start.shape.passes → IsIdle p.seen p.number → IsChange kind → IsLevel p.seen.start.shape level → x < p.seen.start.shape.passes

@@ -1,7 +1,6 @@
 -- What is known of a call from how far it has come: its level, its stage, and its next step, which it may take.
 use Rattle.std.proofs.Common.{◌≡◌, ℕ, ◌-◌, Option, Some, None, sym, ap, subst, ◌∙◌}
 use Rattle.fn_rows.specs.declared.Stage.{Stage}
-use Rattle.fn_rows.specs.declared.Stage.TheVariants.{Shut}
 use Rattle.fn_layout.specs.declared.shape.Shape.{Shape}
 use Rattle.fn_layout.specs.Kinds.{IsFunnelled}
 use Rattle.fn_layout.specs.Tree.{IsLevel, aggregator}
@@ -86,7 +85,3 @@ module _ (p : PassView) (c : Course) (h : Holds p c) where
 
     pub may_exchange : May p (Exchange c.kind (hi_of (held_at c c.level) - lo_of (held_at c c.level)))
     may_exchange = subst (May p) next_exchange may_next
-
-    -- it stands at the top, with its batch closed
-    pub at_top : (c.level ≡ shape.levels) × (at hi : ℕ) × (held_at c c.level ≡ Shut at hi)
-    at_top = let f = subst (Fits shape.levels (own_of p).stages) (ap (position_by c.kind c.level) loaded) fits in (f.1, f.2, f.3, held_is ∙ f.4)

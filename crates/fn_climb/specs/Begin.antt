@@ -1,8 +1,10 @@
 -- How a call begins on the table, where others come between its scans.
 --     Taken, Takes pass takings after      a step and the number that it found, and several one after the other
 --     scan_takings shape kind pass finds      the scans of a beginning, with what they found
---     Began pass kind amount finds first after      the steps by which a call begins
---     IsRefused pass kind takings at      why it is refused
+--     RowTried, LevelTried, RowsTried      one row was tried, the rows of a level, and those of all levels
+--     IsBeginning pass kind amount takings after      the steps by which a call begins
+--     HasBegun pass kind amount after, IsRefused pass kind takings at      the call that it made, or why it is refused
+--     BeginAnswers pass kind amount answer      what a beginning answers
 use Rattle.std.specs.Prelude.{◌≡◌, ◌≢◌, ◌⊎◌, ℕ, suc, ◌+◌, ◌-◌, ◌*◌, ◌<◌, ◌≤◌, List, [], ◌∷◌, ◌++◌, Option, Some, None, map, length, option_map, Result, Ok, Err, true, false, slice_index_or}
 use Rattle.std.specs.List.{range_with_len, flat_map, Contains}
 use Rattle.fn_model.specs.declared.Kind.{Kind}
@@ -34,13 +36,15 @@ Takes p (t ∷ ts) q = (r : PassView) × Stepped p t.step t.number r × Takes r 
 abbrev pub scan_taken : Kind → ℕ → (ℕ → ℕ) → ℕ → Taken
 scan_taken kind level words q = record { step = Scan kind level q; number = words q }
 
--- the scans for one row, at a level, and all
+-- the scans for one row
 abbrev pub row_takings : Shape → Kind → ℕ → ℕ → Finds → ℕ → List Taken
 row_takings shape kind level pass finds n = map (scan_taken kind level (finds.words n)) (scanned_by shape level pass (finds.words n) (finds.ends n))
 
+-- .. at a level
 abbrev pub level_takings : Shape → Kind → ℕ → Finds → ℕ → List Taken
 level_takings shape kind pass finds level = flat_map (row_takings shape kind level pass finds) (rows_tried_by shape level pass finds)
 
+-- .. at each level, up to the first without an open row
 abbrev pub scan_takings : Shape → Kind → ℕ → (ℕ → Finds) → List Taken
 scan_takings shape kind pass finds = flat_map (λ level. level_takings shape kind pass (finds level) level) (up_to (is_full_by shape pass finds) (range_with_len 1 shape.levels))
 
@@ -121,6 +125,10 @@ pub record HasBegun (p : PassView) (kind : Kind) (amount : ℕ) (q : PassView) :
 abbrev pub first_takings : Kind → ℕ → ℕ → ℕ → ℕ → List Taken
 first_takings kind amount a b n = record { step = See kind 1; number = a } ∷ record { step = Announce kind 1; number = b } ∷ record { step = Arrive kind 1 amount; number = n } ∷ []
 
+-- these steps end with those three
+abbrev pub EndsAtLeaf : Kind → ℕ → List Taken → Type 0
+EndsAtLeaf kind amount takings = (earlier : List Taken) × (a b n : ℕ) × (takings ≡ earlier ++ first_takings kind amount a b n)
+
 -- the pass arrived at its leaf
 pub record Arrived (p : PassView) (kind : Kind) (amount : ℕ) (q : PassView) : Type 0 where
   pub a : ℕ
@@ -154,6 +162,6 @@ pub record IsRefused (p : PassView) (kind : Kind) (takings : List Taken) (at : B
   pub last : (earlier : List Taken) × (takings ≡ earlier ++ record { step = Scan kind at.level at.pass; number = suc at.announced } ∷ [])
 
 -- what a beginning answers: the call waits at its leaf, or at some level each row is blocked, and the pass has made no call
-abbrev pub Answers : PassView → Kind → ℕ → Begun → Type 0
-Answers p kind amount (Waiting q) = (takings : List Taken) × IsBeginning p kind amount takings q × HasBegun p kind amount q
-Answers p kind amount (NoRow q at) = (takings : List Taken) × IsBeginning p kind amount takings q × IsRefused p kind takings at × ((own_of q).caller ≡ (own_of p).caller) × IsIdle q.seen q.number
+abbrev pub BeginAnswers : PassView → Kind → ℕ → Begun → Type 0
+BeginAnswers p kind amount (Waiting q) = (takings : List Taken) × IsBeginning p kind amount takings q × EndsAtLeaf kind amount takings × HasBegun p kind amount q
+BeginAnswers p kind amount (NoRow q at) = (takings : List Taken) × IsBeginning p kind amount takings q × IsRefused p kind takings at × ((own_of q).caller ≡ (own_of p).caller) × IsIdle q.seen q.number

@@ -7,7 +7,7 @@
 use Rattle.std.specs.Prelude.{◌≡◌, ◌<◌, ◌-◌, ◌+◌, ◌*◌, ◌==◌, if◌then◌else◌, ℕ, Bool, true, false, Option, Some, None, length, set, slice_index_or}
 use Rattle.fn_model.specs.declared.Kind.{Kind}
 use Rattle.fn_rows.specs.declared.Stage.{Stage}
-use Rattle.fn_rows.specs.declared.Stage.TheVariants.{Out, Saw, Told, Lead, Late, Based, Headed, FilledLo, FilledBase, Filled, Pointed, At, Over, Hit}
+use Rattle.fn_rows.specs.declared.Stage.TheVariants.{Out, Saw, Told, Lead, Late, Shut, Based, Headed, FilledLo, FilledBase, Filled, Pointed, At, Over, Hit}
 use Rattle.fn_rows.specs.declared.Field.{Field}
 use Rattle.fn_layout.specs.declared.shape.Shape.{Shape}
 use Rattle.fn_layout.specs.Tree.{IsLevel, aggregator, member}
@@ -34,12 +34,17 @@ abbrev pub position_by : Kind → ℕ → Option ℕ → Position
 position_by kind level None = Climbing kind level
 position_by kind level (Some word) = Deciding kind level word
 
+-- .. of a call in memory
 abbrev pub position_of : Course → Position
 position_of c = position_by c.kind c.level c.word
 
 -- where the call stands at a level
 abbrev pub held_at : Course → ℕ → Stage
 held_at c level = slice_index_or c.stages (level - 1) Out
+
+-- the call has closed its batch
+abbrev pub IsShut : Course → Type 0
+IsShut c = (at hi : ℕ) × (held_at c c.level ≡ Shut at hi)
 
 -- the call after it has gone on to a stage at a level
 abbrev pub at_stage : Course → ℕ → Stage → Course

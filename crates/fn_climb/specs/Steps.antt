@@ -1,4 +1,5 @@
 -- What the steps of a call tell.
+--     StepAnswers pass answer      what a step answers
 --     IsLater pass after      the same pass, which has seen more
 --     Replied pass reply      what holds of a reply besides
 --     Went pass told after      the pass took the next step of its call, which told this
@@ -36,6 +37,7 @@ pub record Replied (q : PassView) (reply : ℕ) : Type 0 where
       → let was : CoreLog = record { start = q.seen.start; log = earlier } in ((state_in was).callers q.number).made ≤ (own_of q).caller.last.number
       → (i : ℕ) → place q.number (own_of q).caller.last.number (calls_in q.seen) ≡ Some i → length (calls_in was) ≤ i
 
+-- .. where the step tells one
 abbrev pub HasReplied : PassView → CoreStep → Type 0
 HasReplied q (told.Ready reply) = Replied q reply
 HasReplied q _ = Unit {0}
@@ -56,7 +58,7 @@ pub record Went (p : PassView) (told : CoreStep) (q : PassView) : Type 0 where
   pub same : HasSameCall p q
 
 -- what a step answers
-abbrev pub Answers : PassView → Step → Type 0
-Answers p (Going q) = Went p told.Going q
-Answers p (Ready q reply) = Went p (told.Ready reply) q
-Answers p (NotYet q why) = Went p (told.NotYet why) q
+abbrev pub StepAnswers : PassView → Step → Type 0
+StepAnswers p (Going q) = Went p told.Going q
+StepAnswers p (Ready q reply) = Went p (told.Ready reply) q
+StepAnswers p (NotYet q why) = Went p (told.NotYet why) q

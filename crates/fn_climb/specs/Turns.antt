@@ -1,4 +1,5 @@
 -- What a poll tells.
+--     PollAnswers pass answer      what a poll answers
 --     GoesOn pass steps after      the pass took these steps of its call, each of which left it going
 --     Polled pass told after      .. and one more, which told this
 use Rattle.std.specs.Prelude.{◌≡◌, ℕ, suc, ◌+◌, ◌*◌, ◌≤◌, false, List, [], ◌∷◌, ◌++◌, length}
@@ -33,6 +34,6 @@ pub record Polled (p : PassView) (told : CoreStep) (q : PassView) : Type 0 where
   pub same : HasSameCall p q
 
 -- what a poll answers
-abbrev pub Answers : PassView → Turn → Type 0
-Answers p (Ready q reply) = Polled p (told.Ready reply) q
-Answers p (NotYet q why) = Polled p (told.NotYet why) q
+abbrev pub PollAnswers : PassView → Turn → Type 0
+PollAnswers p (Ready q reply) = Polled p (told.Ready reply) q
+PollAnswers p (NotYet q why) = Polled p (told.NotYet why) q

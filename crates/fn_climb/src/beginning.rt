@@ -6,7 +6,7 @@ ghost use Rattle.fn_core.specs.Machine.{IsChange, MaySpend};
 ghost use Rattle.fn_core.specs.Begin.{is_other};
 ghost use Rattle.fn_core.specs.Calls.{state_in, IsIdle};
 ghost use Rattle.fn_table.specs.Seen.{IsOf, own_of};
-ghost use Rattle.fn_climb.specs.Begin.{AreOpen, Arrived, Answers, RowTried, LevelTried, RowsTried};
+ghost use Rattle.fn_climb.specs.Begin.{AreOpen, Arrived, BeginAnswers, RowTried, LevelTried, RowsTried};
 
 use crate::course::Course;
 use crate::pending::Pending;
@@ -30,7 +30,7 @@ pub fn begin(table: &FunnelTable, mut pass: Pass, kind: Kind, amount: u64) -> Be
     requires idle { IsIdle pass.seen pass.number }
     requires change { IsChange kind }
     requires amount { MaySpend (state_in pass.seen) pass.number amount }
-    ensures { Answers pass kind amount result }
+    ensures { BeginAnswers pass kind amount result }
 {
     match find_rows(table, &mut pass, kind) {
         Ok(rows) => Begun::Waiting(arrive_at_leaf(table, pass, kind, amount, rows)),

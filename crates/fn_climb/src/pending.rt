@@ -3,8 +3,8 @@ ghost use Rattle.std.specs.Prelude.{◌≡◌, ◌==◌, ◌&&◌, None, Some, f
 ghost use Rattle.fn_model.specs.Calls.{same_kind};
 ghost use Rattle.fn_rows.specs.declared.Stage.TheVariants as stage;
 ghost use Rattle.fn_table.specs.Seen.{IsOf};
-ghost use Rattle.fn_climb.specs.Course.{held_at, Holds};
-ghost use Rattle.fn_climb.specs.Steps.{Answers};
+ghost use Rattle.fn_climb.specs.Course.{held_at, IsShut, Holds};
+ghost use Rattle.fn_climb.specs.Steps.{StepAnswers};
 
 use crate::at_level::go_on;
 use crate::course::Course;
@@ -45,7 +45,7 @@ impl Pending {
     /// Takes the next step of the call, exactly one.
     pub fn step(self, table: &FunnelTable) -> Step
         requires together { IsOf table.now self }
-        ensures { Answers self result }
+        ensures { StepAnswers self result }
     {
         let Pending { pass, course } = self;
         match course.word {
@@ -60,12 +60,12 @@ fn climb(table: &FunnelTable, mut pass: Pass, course: Course) -> Step
     requires together { IsOf table.now pass }
     requires holds { Holds pass course }
     requires free { course.word ≡ None }
-    ensures { Answers pass result }
+    ensures { StepAnswers pass result }
 {
     let stage = course.held_at(course.level);
     match stage {
         Stage::Waiting(at) => look_at(table, pass, course, at),
-        Stage::Shut(at, hi) => go_up(table, pass, course, at, hi),
+        Stage::Shut(_, _) => go_up(table, pass, course),
         Stage::Got(base, ahead) => come_down(table, pass, course, base, ahead),
         _ => {
             let next = go_on(table, &mut pass, course, stage);
@@ -81,7 +81,7 @@ fn look_at(table: &FunnelTable, mut pass: Pass, course: Course, at: u64) -> Step
     requires holds { Holds pass course }
     requires free { course.word ≡ None }
     requires waits { held_at course course.level ≡ stage.Waiting at }
-    ensures { Answers pass result }
+    ensures { StepAnswers pass result }
 {
     let done = look(table, &mut pass, course.kind, course.level);
     if done < at {
@@ -97,12 +97,12 @@ fn look_at(table: &FunnelTable, mut pass: Pass, course: Course, at: u64) -> Step
 }
 
 // The batch that the call has closed goes up a level, or enters the main word.
-fn go_up(table: &FunnelTable, mut pass: Pass, course: Course, at: u64, hi: u64) -> Step
+fn go_up(table: &FunnelTable, mut pass: Pass, course: Course) -> Step
     requires together { IsOf table.now pass }
     requires holds { Holds pass course }
     requires free { course.word ≡ None }
-    requires shut { held_at course course.level ≡ stage.Shut at hi }
-    ensures { Answers pass result }
+    requires shut { IsShut course }
+    ensures { StepAnswers pass result }
 {
     if course.level < table.shape().levels() {
         let level = course.level + 1;
@@ -112,25 +112,25 @@ fn go_up(table: &FunnelTable, mut pass: Pass, course: Course, at: u64, hi: u64) 
     } else {
         match course.kind {
             Kind::Add => if table.cap() == NO_CAP {
-                apply(table, pass, course, at, hi)
+                apply(table, pass, course)
             } else {
-                load(table, pass, course, at, hi)
+                load(table, pass, course)
             },
-            _ => load(table, pass, course, at, hi),
+            _ => load(table, pass, course),
         }
     }
 }
 
 // Adds the batch to the main word.
-fn apply(table: &FunnelTable, mut pass: Pass, course: Course, at: u64, hi: u64) -> Step
+fn apply(table: &FunnelTable, mut pass: Pass, course: Course) -> Step
     requires together { IsOf table.now pass }
     requires holds { Holds pass course }
     requires free { course.word ≡ None }
-    requires shut { held_at course course.level ≡ stage.Shut at hi }
+    requires shut { IsShut course }
     requires top { course.level ≡ pass.seen.start.shape.levels }
     requires adds { course.kind ≡ Kind.Add }
     requires uncapped { pass.seen.start.cap ≡ NO_CAP }
-    ensures { Answers pass result }
+    ensures { StepAnswers pass result }
 {
     let base = apply_batch(table, &mut pass, course.weight_at(course.level));
     let course = course.based_at(course.level, base);
@@ -138,14 +138,14 @@ fn apply(table: &FunnelTable, mut pass: Pass, course: Course, at: u64, hi: u64) 
 }
 
 // Loads the main word, to exchange it.
-fn load(table: &FunnelTable, mut pass: Pass, course: Course, at: u64, hi: u64) -> Step
+fn load(table: &FunnelTable, mut pass: Pass, course: Course) -> Step
     requires together { IsOf table.now pass }
     requires holds { Holds pass course }
     requires free { course.word ≡ None }
-    requires shut { held_at course course.level ≡ stage.Shut at hi }
+    requires shut { IsShut course }
     requires top { course.level ≡ pass.seen.start.shape.levels }
     requires tries { (same_kind course.kind Kind.Add && (pass.seen.start.cap == NO_CAP)) ≡ false }
-    ensures { Answers pass result }
+    ensures { StepAnswers pass result }
 {
     let word = Some(load_try(table, &mut pass));
     let course = Course { word, ..course };
@@ -157,7 +157,7 @@ fn decide(table: &FunnelTable, mut pass: Pass, course: Course, word: u64) -> Ste
     requires together { IsOf table.now pass }
     requires holds { Holds pass course }
     requires loaded { course.word ≡ Some word }
-    ensures { Answers pass result }
+    ensures { StepAnswers pass result }
 {
     let (kind, level) = (course.kind, course.level);
     let weight = course.weight_at(level);
@@ -183,7 +183,7 @@ fn come_down(table: &FunnelTable, mut pass: Pass, course: Course, base: u64, ahe
     requires holds { Holds pass course }
     requires free { course.word ≡ None }
     requires got { held_at course course.level ≡ stage.Got base ahead }
-    ensures { Answers pass result }
+    ensures { StepAnswers pass result }
 {
     let (kind, level) = (course.kind, course.level);
     let reply = after_capped(table.cap(), base, kind, ahead);

@@ -1,6 +1,6 @@
 //! The steps of a call up to an answer.
 ghost use Rattle.fn_table.specs.Seen.{IsOf};
-ghost use Rattle.fn_climb.specs.Turns.{Answers};
+ghost use Rattle.fn_climb.specs.Turns.{PollAnswers};
 
 use crate::pending::{Pending, Step};
 use fn_core::Why;
@@ -18,7 +18,7 @@ impl Pending {
     /// Takes steps of the call up to the first that ends it or tells it to wait.
     pub fn poll(self, table: &FunnelTable) -> Turn
         requires together { IsOf table.now self }
-        ensures { Answers self result }
+        ensures { PollAnswers self result }
     {
         let mut pending = self;
         loop {

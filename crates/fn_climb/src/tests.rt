@@ -309,3 +309,15 @@ fn the_greatest_value_is_reached(rt: HostRuntime) -> Result<(), Fail> {
     assert!(&rt; false);
     Ok(())
 }
+
+#[test]
+fn passes_with_a_leaf_each_meet_above(rt: HostRuntime) -> Result<(), Fail> {
+    if let Ok(shape) = Shape::new(2, 2, 2, 1)
+        && let Ok((table, passes)) = FunnelTable::open(rt.alloc(), shape, 2, &[1, 2])
+    {
+        assert_eq!(rt; two_replies(&table, passes, Kind::Sub, 1, 2), Some((2, 1)));
+        return Ok(());
+    }
+    assert!(&rt; false);
+    Ok(())
+}

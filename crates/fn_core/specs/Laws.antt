@@ -230,7 +230,7 @@ abbrev pub BeginsNone : ℕ → Kind → List Event → Type 0
 BeginsNone pass kind [] = ⊤
 BeginsNone pass kind (event ∷ later) = (event.pass ≡ pass → Begins event.step kind → ⊥) × BeginsNone pass kind later
 
--- where a call may still come to fill a row at a level, its first free row there is the one that was first at each moment since it began: the row that it fills is the one that its beginning chose
+-- where a call may still come to fill a row at a level, its first free row there is the one that was first at each moment since it began
 abbrev pub ChosenRowsStay : Type 0
 ChosenRowsStay = Always (λ start s. (later : List Event) → Legal start later s → (pass : ℕ) (kind : Kind) (level : ℕ) → 1 ≤ level → level ≤ start.shape.levels → BeginsNone pass kind later
     → let next = run start later s in FillsAt (λ k l. stage start next k l pass) (next.callers pass).position kind level → first_free start next kind level pass ≡ first_free start s kind level pass)

@@ -130,7 +130,7 @@ pub fn one_step_for_a_tree()
     ensures one { OneStepAnEvent }
 {}
 
-/// Each aggregator keeps the row law, and a call keeps a free row at each level at which it may come to fill one: the one that its beginning chose.
+/// Each aggregator keeps the row law, and a call keeps a free row at each level at which it may come to fill one, the first of which is the same from its beginning on.
 pub fn rows_are_kept()
     ensures lawful { RowsAreLawful }
     ensures named { RowsHaveNames }

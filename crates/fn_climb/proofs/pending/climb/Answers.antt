@@ -28,3 +28,6 @@ invariant_of-result c = subst (Holds c.go_on-next.new.pass) (sym c.goes_to-cours
 
 pub returns-in_default : goal.returns-in_default
 returns-in_default c = (moved c.args.pass c.args.course c.requires.holds c.requires.free c.go_on-next.result c.go_on-next.new.pass c.go_on-next.ensures).0
+
+pub go_up-requires-clause-shut : goal.go_up-requires-clause-shut
+go_up-requires-clause-shut c = (_, _, sym c.held_at-stage.ensures ∙ c.in-Shut.is)

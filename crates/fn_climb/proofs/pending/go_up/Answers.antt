@@ -4,16 +4,16 @@ use Rattle.fn_climb.proofs.Tops.{may_see, saw_above, below_top, top_at, not_adde
 use Rattle.fn_climb.proofs.pending.go_up.Goals as goal
 
 pub see-seen-requires-clause-may : goal.see-seen-requires-clause-may
-see-seen-requires-clause-may c = may_see c.args.pass c.args.course c.requires.holds c.requires.free c.args.at c.args.hi c.requires.shut (below_top c.args.pass c.args.course c.args.table.now c.shape.result c.levels.result c.requires.together c.shape.ensures c.levels.ensures c.if-course-levels.true) (c.args.course.level + 1) (let e : c.args.course.level + 1 ≡ suc c.args.course.level = omega arith in e)
+see-seen-requires-clause-may c = may_see c.args.pass c.args.course c.requires.holds c.requires.free c.requires.shut.0 c.requires.shut.1 c.requires.shut.2 (below_top c.args.pass c.args.course c.args.table.now c.shape.result c.levels.result c.requires.together c.shape.ensures c.levels.ensures c.if-course-levels.true) (c.args.course.level + 1) (let e : c.args.course.level + 1 ≡ suc c.args.course.level = omega arith in e)
 
 pub invariant_of-result : goal.invariant_of-result
 invariant_of-result c =
     subst (Holds c.see-seen.new.pass) (sym c.goes_to-course.ensures)
-    (saw_above c.args.pass c.args.course c.requires.holds c.requires.free c.args.at c.args.hi c.requires.shut (below_top c.args.pass c.args.course c.args.table.now c.shape.result c.levels.result c.requires.together c.shape.ensures c.levels.ensures c.if-course-levels.true) (c.args.course.level + 1) (let e : c.args.course.level + 1 ≡ suc c.args.course.level = omega arith in e) c.see-seen.result c.see-seen.new.pass c.see-seen.ensures).1
+    (saw_above c.args.pass c.args.course c.requires.holds c.requires.free c.requires.shut.0 c.requires.shut.1 c.requires.shut.2 (below_top c.args.pass c.args.course c.args.table.now c.shape.result c.levels.result c.requires.together c.shape.ensures c.levels.ensures c.if-course-levels.true) (c.args.course.level + 1) (let e : c.args.course.level + 1 ≡ suc c.args.course.level = omega arith in e) c.see-seen.result c.see-seen.new.pass c.see-seen.ensures).1
 
 pub returns-then-course-levels : goal.returns-then-course-levels
 returns-then-course-levels c =
-    (saw_above c.args.pass c.args.course c.requires.holds c.requires.free c.args.at c.args.hi c.requires.shut (below_top c.args.pass c.args.course c.args.table.now c.shape.result c.levels.result c.requires.together c.shape.ensures c.levels.ensures c.if-course-levels.true) (c.args.course.level + 1) (let e : c.args.course.level + 1 ≡ suc c.args.course.level = omega arith in e) c.see-seen.result c.see-seen.new.pass c.see-seen.ensures).0
+    (saw_above c.args.pass c.args.course c.requires.holds c.requires.free c.requires.shut.0 c.requires.shut.1 c.requires.shut.2 (below_top c.args.pass c.args.course c.args.table.now c.shape.result c.levels.result c.requires.together c.shape.ensures c.levels.ensures c.if-course-levels.true) (c.args.course.level + 1) (let e : c.args.course.level + 1 ≡ suc c.args.course.level = omega arith in e) c.see-seen.result c.see-seen.new.pass c.see-seen.ensures).0
 
 pub apply-requires-clause-top : goal.apply-requires-clause-top
 apply-requires-clause-top c = top_at c.args.pass c.args.course c.requires.holds c.args.table.now c.shape.result c.levels.result c.requires.together c.shape.ensures c.levels.ensures c.if-course-levels.false

@@ -2,10 +2,10 @@ use Rattle.fn_climb.proofs.Tops.{may_load, loaded_word}
 use Rattle.fn_climb.proofs.pending.load.Goals as goal
 
 pub load_try-requires-clause-may : goal.load_try-requires-clause-may
-load_try-requires-clause-may c = may_load c.args.pass c.args.course c.requires.holds c.requires.free c.args.at c.args.hi c.requires.shut c.requires.top c.requires.tries
+load_try-requires-clause-may c = may_load c.args.pass c.args.course c.requires.holds c.requires.free c.requires.shut.0 c.requires.shut.1 c.requires.shut.2 c.requires.top c.requires.tries
 
 pub invariant_of-result : goal.invariant_of-result
-invariant_of-result c = (loaded_word c.args.pass c.args.course c.requires.holds c.requires.free c.args.at c.args.hi c.requires.shut c.requires.top c.requires.tries c.load_try.result c.load_try.new.pass c.load_try.ensures).1
+invariant_of-result c = (loaded_word c.args.pass c.args.course c.requires.holds c.requires.free c.requires.shut.0 c.requires.shut.1 c.requires.shut.2 c.requires.top c.requires.tries c.load_try.result c.load_try.new.pass c.load_try.ensures).1
 
 pub returns : goal.returns
-returns c = (loaded_word c.args.pass c.args.course c.requires.holds c.requires.free c.args.at c.args.hi c.requires.shut c.requires.top c.requires.tries c.load_try.result c.load_try.new.pass c.load_try.ensures).0
+returns c = (loaded_word c.args.pass c.args.course c.requires.holds c.requires.free c.requires.shut.0 c.requires.shut.1 c.requires.shut.2 c.requires.top c.requires.tries c.load_try.result c.load_try.new.pass c.load_try.ensures).0
