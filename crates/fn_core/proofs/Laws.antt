@@ -66,7 +66,7 @@ module _ (start : Start) (ok : IsStart start) (s : State) (w : Whole start s) (c
         ap (own p) pushed ∙ filter-append (λ c. c.pass == p) (history_in start s) (call ∷ []) ∙ ap (λ (zs : List Call). own p (history_in start s) ++ zs) (own_first p call [] refl) ∙ ap (λ (x : Call). own p (history_in start s) ++ x ∷ []) (sym last),
       )
 
-  last_made : (kind : Kind) (amount : ℕ) → ((makes start s p kind amount).callers p).last ≡ next_call s p kind amount
+  pub last_made : (kind : Kind) (amount : ℕ) → ((makes start s p kind amount).callers p).last ≡ next_call s p kind amount
   last_made kind amount = ap (λ (x : Caller). x.last) (put_here s.callers p (after_call (s.callers p) (next_call s p kind amount)) p refl)
 
   abbrev After : Move → Type 0

@@ -73,3 +73,4 @@ pub mod Told
 pub mod Left
 pub mod OwnRows
 pub mod HandRows
+pub mod Entered

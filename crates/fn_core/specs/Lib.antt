@@ -16,3 +16,4 @@ pub mod Filling
 pub mod Calls
 pub mod Polls
 pub mod Opening
+pub mod Entries

@@ -5,6 +5,7 @@ ghost use Rattle.fn_core.specs.Laws.{RepliesAreRight, DirectRepliesAreRight, Rep
 ghost use Rattle.fn_core.specs.Laws.{RowsAreLawful, RowsHaveNames, FreeRowsStay, FreeRowsAreFound, CallsKeepRows, ChosenRowsStay, LastCallsAreOwn, OwnCallsAreInOrder, OwnCallsGrowByOne, OwnCallsStay};
 ghost use Rattle.fn_core.specs.Laws.{EventsAreLocal, GuardsStay, NextIsOwn, EventsAreSteps, PositionsFit, CallsAlwaysGoOn, StepsRunOut, CallsAreShort, OthersCostNothing};
 ghost use Rattle.fn_core.specs.Trees.{TreesStand, OneStepAnEvent};
+ghost use Rattle.fn_core.specs.Entries.{EntriesStay, NoCallEntersTwice, DirectCallsAreAlone, FunnelledCallsAreBatched};
 ghost use Rattle.fn_core.specs.Polls.{StepsFollow, PollsAreShort};
 ghost use Rattle.fn_core.specs.After.{StepsTell, WordsAreFound};
 
@@ -128,6 +129,14 @@ pub fn batches_follow()
 pub fn one_step_for_a_tree()
     ensures trees { TreesStand }
     ensures one { OneStepAnEvent }
+{}
+
+/// A call that a pass makes by itself enters the main word by itself, and one that waits at its leaf enters in a batch. That stays so, and no call enters in both ways.
+pub fn entries_stay()
+    ensures stay { EntriesStay }
+    ensures once { NoCallEntersTwice }
+    ensures alone { DirectCallsAreAlone }
+    ensures batched { FunnelledCallsAreBatched }
 {}
 
 /// Each aggregator keeps the row law, and a call keeps a free row at each level at which it may come to fill one, the first of which is the same from its beginning on.

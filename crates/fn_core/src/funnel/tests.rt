@@ -154,6 +154,7 @@ fn the_laws_are_called() {
     crate::words_are_small();
     crate::batches_follow();
     crate::one_step_for_a_tree();
+    crate::entries_stay();
     crate::rows_are_kept();
     crate::own_calls_are_in_order();
     crate::events_are_local();
