@@ -3,7 +3,7 @@ use Rattle.std.proofs.Common.{◌≡◌, ◌≢◌, inl, inr, ℕ, zero, suc, �
 use Rattle.std.specs.Prelude.{sum, slice_index_or, cond, ◌==◌}
 use Rattle.std.proofs.lemmas.Bool.{eq-eqb}
 use mathlib.Core.List.{IsPrefix}
-use Rattle.running.proofs.Logs.{own_same, none_after, prefix_more}
+use Rattle.running.proofs.Logs.{none_after, prefix_more}
 use Rattle.fn_model.specs.declared.Kind.{Kind}
 use Rattle.fn_model.specs.Calls.{place as place_of}
 use Rattle.fn_rows.specs.declared.Field.TheVariants.{Lo}
@@ -37,8 +37,7 @@ use Rattle.fn_core.proofs.Measure.{others_cost_nothing, steps_run_out}
 use Rattle.fn_core.proofs.Follows.{legal_parts, run_parts, in_call, follows, few_left}
 use Rattle.fn_table.specs.Funnel.{funnel}
 use Rattle.fn_table.specs.Seen.{PassView, Stepped, own_of, event, events_of, with_log}
-use Rattle.fn_table.proofs.FunnelLaws.{laws}
-use Rattle.fn_table.proofs.States.{own_is, is_legal}
+use Rattle.fn_table.proofs.OwnCalls.{legal_before as legal_until, own_before as own_until, allowed_then}
 use Rattle.fn_climb.specs.declared.course.Course.{Course}
 use Rattle.fn_climb.specs.Course.{position_by, IsCourseOf, HasChosen, Holds}
 use Rattle.fn_climb.specs.Next.{next_step, IsNext}
@@ -125,11 +124,11 @@ module _ (p : PassView) (c : Course) (h : Holds p c) (step : Move) (n : ℕ) (q 
 
   -- what was logged before the step
   pub legal_before : IsLegal before
-  legal_before = let l = subst (λ (v : PassView). IsLegal v.seen) t.now t.legal in (h.legal.0, (legal_parts start t.before (event p.number step ∷ []) (opened start) l.1).0)
+  legal_before = (h.legal.0, legal_until p step n q t)
 
   -- the pass stood there as before
   pub own_before : own start (state_in before) p.number ≡ own_of p
-  own_before = sym (own_is start t.before p.number) ∙ own_same funnel start laws p.number p.seen.log t.before (is_legal start t.before h.legal.0 legal_before.1) t.begins t.events ∙ own_is start p.seen.log p.number
+  own_before = own_until p step n q t
 
   pub call_before : HasCall before p.number
   call_before = subst (λ (o : Own). (kind : Kind) × (has_come (o.stages kind 1) ≡ true)) (sym own_before) h.call
@@ -146,7 +145,7 @@ module _ (p : PassView) (c : Course) (h : Holds p c) (step : Move) (n : ℕ) (q 
 
   module _ (nx : IsNext p step) where
     pub allowed_before : Allowed start (state_in before) (event p.number step)
-    allowed_before = (let l = subst (λ (v : PassView). IsLegal v.seen) t.now t.legal in (legal_parts start t.before (event p.number step ∷ []) (opened start) l.1).1.0)
+    allowed_before = allowed_then p step n q t
 
     -- what the step tells, in the state before it
     pub tells : step_answer start (state_in before) p.number ≡ told_by start.cap step (stage_for start (state_in before) p.number step) (answer_of start (state_in before) p.number step)

@@ -7,7 +7,7 @@ ghost use Rattle.fn_table.specs.Seen.{IsOf, IsWhole, AreOpened};
 use super::*;
 use fn_layout::Shape;
 use fn_model::NO_CAP;
-use fn_table::direct;
+use fn_table::{direct, load_read};
 use std::test::*;
 
 // A call begins, and waits at its leaf.
@@ -125,14 +125,14 @@ fn member_first(table: &FunnelTable, mut passes: Vec<Pass>) -> Option<(Why, u64,
     Some((why, one, two, three))
 }
 
-// The replies of two calls that share a batch.
+// The replies of two calls that share a batch, and the value.
 fn two_replies(
     table: &FunnelTable,
     mut passes: Vec<Pass>,
     kind: Kind,
     amount: u64,
     other: u64,
-) -> Option<(u64, u64)>
+) -> Option<(u64, u64, u64)>
     requires opened { AreOpened table.now passes.items }
     requires change { IsChange kind }
 {
@@ -141,8 +141,9 @@ fn two_replies(
     let first = start(table, first, kind, amount)?;
     let second = start(table, second, kind, other)?;
     let (_, one) = replies(table, first)?;
-    let (_, two) = replies(table, second)?;
-    Some((one, two))
+    let (mut second, two) = replies(table, second)?;
+    let _number = second.number();
+    Some((one, two, load_read(table, &mut second)))
 }
 
 // A direct addition comes between a load and its exchange.
@@ -211,6 +212,100 @@ fn two_levels(table: &FunnelTable, mut passes: Vec<Pass>) -> Option<(u64, u64, u
     Some((one, two, three, four))
 }
 
+// A step of a call, if it hasn't ended, and its reply once it has.
+fn takes_a_step(table: &FunnelTable, call: Option<Pending>, reply: u64) -> (Option<Pending>, u64)
+    requires { IfSome call (λ p. IsOf table.now p) }
+    ensures { IfSome result.0 (λ p. IsOf table.now p) }
+{
+    let Some(pending) = call else {
+        return (None, reply);
+    };
+    match pending.step(table) {
+        Step::Going(pending) => (Some(pending), reply),
+        Step::NotYet(pending, _) => (Some(pending), reply),
+        Step::Ready(_, met) => (None, met),
+    }
+}
+
+// So many of them.
+fn takes_steps(table: &FunnelTable, pending: Pending, times: u32) -> (Option<Pending>, u64)
+    requires { IsOf table.now pending }
+    ensures { IfSome result.0 (λ p. IsOf table.now p) }
+{
+    let mut call = (Some(pending), 0);
+    for _ in 0..times {
+        call = takes_a_step(table, call.0, call.1);
+    }
+    call
+}
+
+// A poll of it.
+fn takes_a_poll(table: &FunnelTable, call: Option<Pending>, reply: u64) -> (Option<Pending>, u64)
+    requires { IfSome call (λ p. IsOf table.now p) }
+    ensures { IfSome result.0 (λ p. IsOf table.now p) }
+{
+    let Some(pending) = call else {
+        return (None, reply);
+    };
+    match pending.poll(table) {
+        Turn::NotYet(pending, _) => (Some(pending), reply),
+        Turn::Ready(_, met) => (None, met),
+    }
+}
+
+// Two calls polled in turn, up to four times the first and three times the second: what each met.
+fn polled_in_turn(
+    table: &FunnelTable,
+    first: (Option<Pending>, u64),
+    second: (Option<Pending>, u64),
+) -> Option<(u64, u64)>
+    requires { IfSome first.0 (λ p. IsOf table.now p) × IfSome second.0 (λ p. IsOf table.now p) }
+{
+    let (mut first, mut second) = (first, second);
+    for _ in 0..3 {
+        first = takes_a_poll(table, first.0, first.1);
+        second = takes_a_poll(table, second.0, second.1);
+    }
+    let (None, one) = takes_a_poll(table, first.0, first.1) else {
+        return None;
+    };
+    let (None, two) = second else {
+        return None;
+    };
+    Some((one, two))
+}
+
+// The first pass stalls after so many steps, and the second goes on: what each met, and the value.
+fn stalls_after(table: &FunnelTable, mut passes: Vec<Pass>, steps: u32) -> Option<((u64, u64), u64)>
+    requires { AreOpened table.now passes.items }
+{
+    let mut third = last_of(table, &mut passes)?;
+    let second = last_of(table, &mut passes)?;
+    let first = last_of(table, &mut passes)?;
+    let first = start(table, first, Kind::Add, 1)?;
+    let first = takes_steps(table, first, steps);
+    let second = start(table, second, Kind::Add, 2)?;
+    let second = takes_a_poll(table, Some(second), 0);
+    let replies = polled_in_turn(table, first, second)?;
+    let _number = third.number();
+    Some((replies, load_read(table, &mut third)))
+}
+
+#[test]
+fn each_stalled_call_ends(rt: HostRuntime) -> Result<(), Fail> {
+    for steps in 0..11 {
+        if let Ok(shape) = Shape::new(3, 1, 1, 2)
+            && let Ok((table, passes)) = FunnelTable::open(rt.alloc(), shape, 0, &[10, 10, 10])
+        {
+            let told = stalls_after(&table, passes, steps);
+            assert!(rt; told == Some(((0, 1), 3)) || told == Some(((2, 0), 3)));
+        } else {
+            assert!(&rt; false);
+        }
+    }
+    Ok(())
+}
+
 #[test]
 fn a_member_polls_before_its_delegate(rt: HostRuntime) -> Result<(), Fail> {
     if let Ok(shape) = Shape::new(3, 1, 1, 2)
@@ -229,7 +324,10 @@ fn a_batch_passes_zero_in_its_middle(rt: HostRuntime) -> Result<(), Fail> {
     if let Ok(shape) = Shape::new(2, 1, 1, 2)
         && let Ok((table, passes)) = FunnelTable::open(rt.alloc(), shape, 6, &[4, 4])
     {
-        assert_eq!(rt; two_replies(&table, passes, Kind::Sub, 4, 4), Some((6, 2)));
+        assert_eq!(rt;
+            two_replies(&table, passes, Kind::Sub, 4, 4),
+            Some((6, 2, 0))
+        );
         return Ok(());
     }
     assert!(&rt; false);
@@ -241,7 +339,10 @@ fn additions_stop_at_the_cap(rt: HostRuntime) -> Result<(), Fail> {
     if let Ok(shape) = Shape::new(2, 1, 1, 2)
         && let Ok((table, passes)) = FunnelTable::open_capped(rt.alloc(), shape, 8, 10, &[20, 20])
     {
-        assert_eq!(rt; two_replies(&table, passes, Kind::Add, 5, 4), Some((8, 10)));
+        assert_eq!(rt;
+            two_replies(&table, passes, Kind::Add, 5, 4),
+            Some((8, 10, 10))
+        );
         return Ok(());
     }
     assert!(&rt; false);
@@ -315,7 +416,10 @@ fn passes_with_a_leaf_each_meet_above(rt: HostRuntime) -> Result<(), Fail> {
     if let Ok(shape) = Shape::new(2, 2, 2, 1)
         && let Ok((table, passes)) = FunnelTable::open(rt.alloc(), shape, 2, &[1, 2])
     {
-        assert_eq!(rt; two_replies(&table, passes, Kind::Sub, 1, 2), Some((2, 1)));
+        assert_eq!(rt;
+            two_replies(&table, passes, Kind::Sub, 1, 2),
+            Some((2, 1, 0))
+        );
         return Ok(());
     }
     assert!(&rt; false);

@@ -1,13 +1,14 @@
 -- A step of an idle pass on the main word is a call of its own, wherever the others stand.
-use Rattle.std.proofs.Common.{◌≡◌, ℕ, suc, ◌+◌, ◌-◌, ◌<◌, ◌≤◌, length, sum, List, [], ◌∷◌, ◌++◌, Bool, Some, refl, sym, ◌∙◌, ap, subst, arith, append_assoc}
-use Rattle.std.specs.Prelude.{if◌then◌else◌, ◌==◌}
+use Rattle.std.proofs.Common.{◌≡◌, ℕ, ◌+◌, ◌-◌, ◌<◌, ◌≤◌, length, length-append, sum, List, [], ◌∷◌, ◌++◌, Bool, refl, sym, ◌∙◌, ap, subst, arith, append_assoc}
+use Rattle.std.specs.Prelude.{if◌then◌else◌}
 use Rattle.std.proofs.lemmas.Bool.{eq-eqb, ne_eqb}
+use Rattle.std.specs.List.{Contains}
 use mathlib.Core.List.{IsPrefix}
-use Rattle.running.proofs.Logs.{own_same}
 use Rattle.fn_model.specs.declared.Call.{Call}
 use Rattle.fn_model.specs.declared.Kind.{Kind}
 use Rattle.fn_model.specs.declared.Kind.TheVariants.{Add, Read}
 use Rattle.fn_model.specs.Calls.{place}
+use Rattle.fn_model.specs.Histories.{OwnStep}
 use Rattle.fn_model.specs.Calls.{own as own_calls}
 use Rattle.fn_core.specs.declared.Event.{Event}
 use Rattle.fn_core.specs.declared.Start.{Start}
@@ -16,23 +17,19 @@ use Rattle.fn_core.specs.declared.Move.TheVariants.{Load, Exchange, Direct, Glan
 use Rattle.fn_core.specs.declared.Purpose.TheVariants as purpose
 use Rattle.fn_core.specs.declared.Position.{Position}
 use Rattle.fn_core.specs.declared.Position.TheVariants.{Resting, Trying}
-use Rattle.fn_core.specs.State.{State, Caller, opened, history_in, next_call, after_call}
+use Rattle.fn_core.specs.State.{State, Caller, opened, history_in, after_call}
 use Rattle.fn_core.specs.Machine.{IsStart, Legal, Allowed, run, effect}
-use Rattle.fn_core.specs.Words.{Own, own}
+use Rattle.fn_core.specs.Words.{Own}
 use Rattle.fn_core.specs.After.{in_position, with_call, loaded_own, exchanged_own}
 use Rattle.fn_core.specs.Laws.{HasReply, MeetsMain}
 use Rattle.fn_core.specs.Calls.{CoreLog, state_in, calls_in, IsLegal, IsIdle, left_of, with_move}
-use Rattle.fn_core.proofs.Counted.{opened_counted}
+use Rattle.fn_core.specs.Entries.{IsAlone, EntersAlone}
+use Rattle.fn_core.proofs.Entered.{direct_calls_are_alone}
 use Rattle.fn_core.proofs.Filling.{legal_push, run_push}
 use Rattle.fn_core.proofs.Follows.{legal_parts, run_parts}
 use Rattle.fn_core.proofs.Grows.{histories_grow, places_are_beyond, replies_are_bounded}
-use Rattle.fn_core.proofs.Joins.{own_calls_stay}
-use Rattle.fn_core.proofs.Log.{opened_whole}
 use Rattle.fn_core.proofs.Laws.{direct_replies_are_right}
-use Rattle.fn_core.proofs.Whole.{FitsAt}
-use Rattle.fn_core.proofs.Owned.{Owned, opened_owned, log_owned, out_idle}
-use Rattle.fn_table.specs.Funnel.{funnel}
-use Rattle.fn_table.specs.Seen.{PassView, Stepped, event, events_of, own_of, with_log}
+use Rattle.fn_table.specs.Seen.{PassView, Stepped, event, own_of, with_log}
 use Rattle.fn_table.proofs.OwnCalls.{own_kept, legal_now, is_start, legal_before, allowed_then, own_before, made_before, caller_now}
 use Rattle.fn_direct.specs.Called.{call_of, HasCalled, HasMadeNone}
 
@@ -94,9 +91,17 @@ module _ (p : PassView) (range : p.number < p.seen.start.shape.passes) (before :
       idle = rests;
     }
 
+-- a call that entered the main word by itself
+entered_alone : (p : PassView) (before : List Event) (step : Move) (call : Call) → EntersAlone p.seen.start (state_in (with_log p before)) (event p.number step) → ((state_in (with_move (with_log p before) p.number step)).callers p.number).last ≡ call → IsAlone (with_move (with_log p before) p.number step) call
+entered_alone p before step call alone last =
+    let e : Event = event p.number step in
+    let new : CoreLog = with_move (with_log p before) p.number step in
+    let here : Contains (state_in new).steps (OwnStep ((state_in new).callers p.number).last) = subst (λ (s : State). Contains s.steps (OwnStep (s.callers p.number).last)) (sym (run_push p.seen.start before e (opened p.seen.start))) alone in
+    subst (λ (c : Call). Contains (state_in new).steps (OwnStep c)) last here
+
 module _ (p : PassView) (idle : IsIdle p.seen p.number) where
   -- a pass that has taken some steps, and has made as many calls and has as much left as before, has made none
-  none_made : p.number < p.seen.start.shape.passes → (new : CoreLog) → new.start ≡ p.seen.start → IsLegal new → IsPrefix p.seen.log new.log → (own_of (record p { seen = new })).caller ≡ (own_of p).caller → HasMadeNone p (record p { seen = new })
+  pub none_made : p.number < p.seen.start.shape.passes → (new : CoreLog) → new.start ≡ p.seen.start → IsLegal new → IsPrefix p.seen.log new.log → (own_of (record p { seen = new })).caller ≡ (own_of p).caller → HasMadeNone p (record p { seen = new })
   none_made range new same legal begins caller =
       let log : List Event = new.log in
       let is : with_log p log ≡ new = ap (λ (start : Start). let core : CoreLog = record { start = start; log = log } in core) (sym same) in
@@ -104,6 +109,7 @@ module _ (p : PassView) (idle : IsIdle p.seen p.number) where
       let there : (state_in (with_log p log)).callers p.number ≡ (state_in p.seen).callers p.number = ap (λ (c : CoreLog). (state_in c).callers p.number) is ∙ caller in
       record {
         calls = ap (λ (c : CoreLog). own_calls p.number (calls_in c)) (sym is) ∙ own_kept p range log legal_here.0 legal_here.1 begins idle (ap (λ (c : Caller). c.made) there);
+        made = ap (λ (c : Caller). c.made) caller;
         left = ap (λ (c : Caller). c.left) caller;
         idle = ap (λ (c : Caller). c.position) caller ∙ idle;
       }
@@ -117,6 +123,10 @@ module _ (p : PassView) (idle : IsIdle p.seen p.number) where
       (has_called p (allowed_then p step n q stepped).0 stepped.before (is_start p step n q stepped) (legal_before p step n q stepped) stepped.begins idle (made_before p step n q stepped) step (allowed_then p step n q stepped) kind amount n main meets
       (ap (λ (c : Caller). c.last) now) (ap (λ (c : Caller). c.left) now) most (ap (λ (c : Caller). c.position) now ∙ idle))
 
+  step_alone : (step : Move) (n : ℕ) (q : PassView) (stepped : Stepped p step n q) (call : Call) → EntersAlone p.seen.start (state_in (with_log p stepped.before)) (event p.number step) → (own_of q).caller ≡ after_call (own_of p).caller call → IsAlone q.seen call
+  step_alone step n q stepped call alone caller =
+      subst (λ (v : PassView). IsAlone v.seen call) (sym stepped.now) (entered_alone p stepped.before step call alone (ap (λ (c : Caller). c.last) (caller_now p step n q stepped ∙ caller)))
+
   -- a step that makes no call
   pub step_makes_none : (step : Move) (n : ℕ) (q : PassView) (stepped : Stepped p step n q) → (own_of q).caller ≡ (own_of p).caller → HasMadeNone p q
   step_makes_none step n q stepped caller =
@@ -128,6 +138,18 @@ module _ (p : PassView) (idle : IsIdle p.seen p.number) where
   read_calls n q stepped =
       let meets = (direct_replies_are_right p.seen.start stepped.before (is_start p (Load purpose.Read) n q stepped) (legal_before p (Load purpose.Read) n q stepped) (event p.number (Load purpose.Read)) (allowed_then p (Load purpose.Read) n q stepped)).0 refl in
       step_calls (Load purpose.Read) n q stepped Read 0 stepped.answer meets (ap (λ (o : Own). o.caller) stepped.own) (omega arith)
+
+  pub read_alone : (n : ℕ) (q : PassView) → Stepped p (Load purpose.Read) n q → IsAlone q.seen (call_of p Read 0)
+  read_alone n q stepped =
+      let step : Move = Load purpose.Read in
+      let law = direct_calls_are_alone p.seen.start stepped.before (is_start p step n q stepped) (legal_before p step n q stepped) (event p.number step) (allowed_then p step n q stepped) in
+      step_alone step n q stepped (call_of p Read 0) (law.0 refl) (ap (λ (o : Own). o.caller) stepped.own)
+
+  pub direct_alone : (amount n : ℕ) (q : PassView) → Stepped p (Direct amount) n q → IsAlone q.seen (call_of p Add amount)
+  direct_alone amount n q stepped =
+      let step : Move = Direct amount in
+      let law = direct_calls_are_alone p.seen.start stepped.before (is_start p step n q stepped) (legal_before p step n q stepped) (event p.number step) (allowed_then p step n q stepped) in
+      step_alone step n q stepped (call_of p Add amount) (law.1 amount refl) (ap (λ (o : Own). o.caller) stepped.own)
 
   pub direct_calls : (amount n : ℕ) (q : PassView) → amount ≤ ((state_in p.seen).callers p.number).left → Stepped p (Direct amount) n q → HasCalled p Add amount n q
   direct_calls amount n q most stepped =
@@ -175,6 +197,18 @@ module _ (p : PassView) (idle : IsIdle p.seen p.number) where
         (has_called p allowed.0 then_exchange.before ok legal begins idle (ap (λ (x : Own). x.caller.made) at) step allowed kind amount found main meets
         (ap (λ (c : Caller). c.last) caller) (ap (λ (c : Caller). c.left) caller) most (ap (λ (c : Caller). c.position) caller))
 
+    pub exchange_alone : found ≡ loaded → IsAlone q.seen (call_of p kind amount)
+    exchange_alone won =
+        let step : Move = Exchange kind amount in
+        let at = own_before tried step found q then_exchange ∙ own_tried in
+        let ok = is_start tried step found q then_exchange in
+        let legal = legal_before tried step found q then_exchange in
+        let main : found ≡ (state_in (with_log p then_exchange.before)).main = then_exchange.answer in
+        let alone = (direct_calls_are_alone p.seen.start then_exchange.before ok legal (event p.number step) (allowed_then tried step found q then_exchange)).2 kind amount loaded refl (ap (λ (x : Own). x.caller.position) at) (sym main ∙ won) in
+        let now : own_of q ≡ in_position (with_call o p.number kind amount) Resting = own_then ∙ ap (λ (b : Bool). if b then in_position (with_call o p.number kind amount) Resting else in_position o Resting) (eq-eqb found loaded won) in
+        let caller = caller_now tried step found q then_exchange ∙ ap (λ (x : Own). x.caller) now in
+        subst (λ (v : PassView). IsAlone v.seen (call_of p kind amount)) (sym then_exchange.now) (entered_alone p then_exchange.before step (call_of p kind amount) alone (ap (λ (c : Caller). c.last) caller))
+
     pub exchange_makes_none : (found ≡ loaded → ⊥) → HasMadeNone p q
     exchange_makes_none lost =
         let step : Move = Exchange kind amount in
@@ -184,3 +218,39 @@ module _ (p : PassView) (idle : IsIdle p.seen p.number) where
         subst (HasMadeNone p) (sym then_exchange.now)
         (none_made (allowed_then tried step found q then_exchange).0 (with_move (with_log p then_exchange.before) p.number step) refl (legal_now tried step found q then_exchange)
         (begins.0 ++ e, sym (append_assoc p.seen.log begins.0 e) ∙ ap (λ (l : List Event). l ++ e) begins.1) (caller_now tried step found q then_exchange ∙ ap (λ (x : Own). x.caller) now ∙ rests))
+
+module _ (p : PassView) (log : List Event) (legal : IsLegal (with_log p log)) (begins : IsPrefix p.seen.log log) where
+  -- the history has only grown since
+  grown : length (calls_in p.seen) ≤ length (calls_in (with_log p log))
+  grown =
+      let start : Start = p.seen.start in
+      let parts = legal_parts start p.seen.log begins.0 (opened start) (subst (λ (l : List Event). Legal start l (opened start)) (sym begins.1) legal.1) in
+      let more = histories_grow start p.seen.log legal.0 parts.0 begins.0 parts.1 in
+      let same : calls_in (with_log p log) ≡ calls_in p.seen ++ more.0 =
+      ap (λ (l : List Event). history_in start (run start l (opened start))) (sym begins.1) ∙ ap (λ (s : State). history_in start s) (run_parts start p.seen.log begins.0 (opened start)) ∙ more.1 in
+      let long : length (calls_in (with_log p log)) ≡ length (calls_in p.seen) + length more.0 = ap (λ (calls : List Call). length calls) same ∙ length-append (calls_in p.seen) more.0 in
+      omega (arith, long)
+
+  since_log : (m q : PassView) (kind : Kind) (amount reply : ℕ) → m.number ≡ p.number → m.seen ≡ with_log p log → HasMadeNone p m → HasCalled m kind amount reply q → HasCalled p kind amount reply q
+  since_log m q kind amount reply number seen none called =
+      let at : ℕ → ℕ → Call = λ pass n. record { pass = pass; number = n; kind = kind; amount = amount } in
+      let same : call_of m kind amount ≡ call_of p kind amount = (λ i. at (number i) (none.made i)) in
+      let mine : own_calls p.number (calls_in m.seen) ++ call_of m kind amount ∷ [] ≡ own_calls p.number (calls_in p.seen) ++ call_of p kind amount ∷ [] = (λ i. none.calls i ++ same i ∷ []) in
+      record {
+        met = subst (λ (call : Call). HasReply q.seen.start (calls_in q.seen) call reply) same called.met;
+        joined = ap (λ (n : ℕ). own_calls n (calls_in q.seen)) (sym number) ∙ called.joined ∙ ap (λ (n : ℕ). own_calls n (calls_in m.seen) ++ call_of m kind amount ∷ []) number ∙ mine;
+        beyond = λ i stands.
+            let behind = called.beyond i (ap (λ (call : Call). place call.pass call.number (calls_in q.seen)) same ∙ stands) in
+            let long : length (calls_in m.seen) ≡ length (calls_in (with_log p log)) = ap (λ (core : CoreLog). length (calls_in core)) seen in
+            omega (arith, grown, behind, long);
+        bounded = subst (λ (core : CoreLog). reply ≤ core.start.opening + sum core.start.allowances) seen called.bounded;
+        spent = ap (λ (n : ℕ). left_of q.seen n + amount) (sym number) ∙ called.spent ∙ ap (λ (n : ℕ). left_of m.seen n) number ∙ none.left;
+        idle = subst (λ (n : ℕ). IsIdle q.seen n) number called.idle;
+      }
+
+-- a call that the pass makes after some steps by which it made none is the one that it makes from before them
+pub called_since : (p m q : PassView) (kind : Kind) (amount reply : ℕ) → m.number ≡ p.number → m.seen.start ≡ p.seen.start → IsLegal m.seen → IsPrefix p.seen.log m.seen.log → HasMadeNone p m → HasCalled m kind amount reply q → HasCalled p kind amount reply q
+called_since p m q kind amount reply number same legal first none called =
+    let log : List Event = m.seen.log in
+    let is : m.seen ≡ with_log p log = (λ i. let core : CoreLog = record { start = same i; log = log } in core) in
+    since_log p log (subst IsLegal is legal) first m q kind amount reply number is none called

@@ -3,7 +3,7 @@
 --     HasCalled pass kind amount reply after      the pass has made it, and it met the reply
 --     HasMadeNone pass after      the pass has made no call
 --     Tried pass kind amount loaded found after      the pass loaded the main word, and then tried to exchange it
-use Rattle.std.specs.Prelude.{◌≡◌, ℕ, ◌+◌, ◌≤◌, List, [], ◌∷◌, ◌++◌, length, sum, Some}
+use Rattle.std.specs.Prelude.{◌≡◌, ℕ, ◌+◌, ◌≤◌, [], ◌∷◌, ◌++◌, length, sum, Some}
 use Rattle.fn_model.specs.declared.Call.{Call}
 use Rattle.fn_model.specs.declared.Kind.{Kind}
 use Rattle.fn_model.specs.Calls.{own, place}
@@ -12,7 +12,7 @@ use Rattle.fn_core.specs.declared.Purpose.TheVariants as purpose
 use Rattle.fn_core.specs.State.{next_call}
 use Rattle.fn_core.specs.Laws.{HasReply}
 use Rattle.fn_core.specs.Calls.{state_in, calls_in, IsIdle, left_of}
-use Rattle.fn_table.specs.Seen.{PassView, Stepped}
+use Rattle.fn_table.specs.Seen.{PassView, Stepped, own_of}
 
 -- the call that the pass makes next
 abbrev pub call_of : PassView → Kind → ℕ → Call
@@ -27,9 +27,10 @@ pub record HasCalled (p : PassView) (kind : Kind) (amount reply : ℕ) (q : Pass
   pub spent : left_of q.seen p.number + amount ≡ left_of p.seen p.number
   pub idle : IsIdle q.seen p.number
 
--- the pass has made no call more, and spent nothing
+-- the pass has made no call more, and spent nothing; so its next call has the same number
 pub record HasMadeNone (p q : PassView) : Type 0 where
   pub calls : own p.number (calls_in q.seen) ≡ own p.number (calls_in p.seen)
+  pub made : (own_of q).caller.made ≡ (own_of p).caller.made
   pub left : left_of q.seen p.number ≡ left_of p.seen p.number
   pub idle : IsIdle q.seen p.number
 

@@ -8,8 +8,9 @@ ghost use Rattle.fn_core.specs.declared.Move.TheVariants.{Load, Direct, Glance};
 ghost use Rattle.fn_core.specs.declared.Purpose.TheVariants as purpose;
 ghost use Rattle.fn_core.specs.Machine.{IsChange, MaySpend, no_cap};
 ghost use Rattle.fn_core.specs.Calls.{state_in, IsIdle};
+ghost use Rattle.fn_core.specs.Entries.{IsAlone};
 ghost use Rattle.fn_table.specs.Seen.{IsOf, IsNoteOf, Stepped, Stored, Met, note_of};
-ghost use Rattle.fn_direct.specs.Called.{HasCalled, HasMadeNone, Tried};
+ghost use Rattle.fn_direct.specs.Called.{call_of, HasCalled, HasMadeNone, Tried};
 
 use fn_layout::Kind;
 use fn_table::{FunnelTable, Note, Pass, direct, exchange, load_read, load_try};
@@ -27,6 +28,7 @@ pub fn read(table: &FunnelTable, pass: &mut Pass) -> u64
     requires idle { IsIdle pass.old.seen pass.old.number }
     ensures step { Stepped pass.old (Load purpose.Read) result pass.new }
     ensures called { HasCalled pass.old Read 0 result pass.new }
+    ensures alone { IsAlone pass.new.seen (call_of pass.old Read 0) }
 {
     let _in_range = pass.number();
     load_read(table, pass)
@@ -40,6 +42,7 @@ pub fn add_direct(table: &FunnelTable, pass: &mut Pass, amount: u64) -> u64
     requires no_cap { table.now.start.cap ≡ no_cap }
     ensures step { Stepped pass.old (Direct amount) result pass.new }
     ensures called { HasCalled pass.old Add amount result pass.new }
+    ensures alone { IsAlone pass.new.seen (call_of pass.old Add amount) }
 {
     let _in_range = pass.number();
     direct(table, pass, amount)
@@ -53,6 +56,7 @@ pub fn sub_direct(table: &FunnelTable, pass: &mut Pass, amount: u64) -> Result<u
     requires idle { IsIdle pass.old.seen pass.old.number }
     requires amount { MaySpend (state_in pass.old.seen) pass.old.number amount }
     ensures called { IfOk result (λ reply. Tried pass.old Sub amount reply reply pass.new × HasCalled pass.old Sub amount reply pass.new) }
+    ensures alone { IfOk result (λ _. IsAlone pass.new.seen (call_of pass.old Sub amount)) }
     ensures lost { IfErr result (λ lost. Tried pass.old Sub amount lost.loaded lost.found pass.new × (lost.found ≢ lost.loaded) × HasMadeNone pass.old pass.new) }
 {
     try_exchange(table, pass, Kind::Sub, amount)
@@ -66,6 +70,7 @@ pub fn add_capped(table: &FunnelTable, pass: &mut Pass, amount: u64) -> Result<u
     requires idle { IsIdle pass.old.seen pass.old.number }
     requires amount { MaySpend (state_in pass.old.seen) pass.old.number amount }
     ensures called { IfOk result (λ reply. Tried pass.old Add amount reply reply pass.new × HasCalled pass.old Add amount reply pass.new) }
+    ensures alone { IfOk result (λ _. IsAlone pass.new.seen (call_of pass.old Add amount)) }
     ensures lost { IfErr result (λ lost. Tried pass.old Add amount lost.loaded lost.found pass.new × (lost.found ≢ lost.loaded) × HasMadeNone pass.old pass.new) }
 {
     try_exchange(table, pass, Kind::Add, amount)
@@ -100,6 +105,7 @@ fn try_exchange(table: &FunnelTable, pass: &mut Pass, kind: Kind, amount: u64) -
     requires change { IsChange kind }
     requires amount { MaySpend (state_in pass.old.seen) pass.old.number amount }
     ensures called { IfOk result (λ reply. Tried pass.old kind amount reply reply pass.new × HasCalled pass.old kind amount reply pass.new) }
+    ensures alone { IfOk result (λ _. IsAlone pass.new.seen (call_of pass.old kind amount)) }
     ensures lost { IfErr result (λ lost. Tried pass.old kind amount lost.loaded lost.found pass.new × (lost.found ≢ lost.loaded) × HasMadeNone pass.old pass.new) }
 {
     let _in_range = pass.number();

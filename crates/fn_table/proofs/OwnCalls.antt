@@ -1,8 +1,8 @@
 -- What a pass keeps while others step: its own, and its own calls.
-use Rattle.std.proofs.Common.{◌≡◌, ℕ, zero, suc, ◌+◌, ◌<◌, List, [], ◌∷◌, ◌++◌, map, Some, All, slice_get, refl, sym, ◌∙◌, ap, subst, arith}
+use Rattle.std.proofs.Common.{◌≡◌, ℕ, zero, suc, ◌+◌, ◌<◌, List, [], ◌∷◌, map, Some, All, slice_get, sym, ◌∙◌, ap, subst, arith}
 use Rattle.std.proofs.lemmas.List.Elements.{All-head, All-tail}
 use mathlib.Core.List.{IsPrefix}
-use Rattle.running.specs.Running.{upto, numbers_from}
+use Rattle.running.specs.Running.{numbers_from}
 use Rattle.running.proofs.Logs.{own_same}
 use Rattle.fn_model.specs.Calls.{own as own_calls}
 use Rattle.fn_core.specs.declared.Event.{Event}
@@ -72,7 +72,6 @@ module _ (p : PassView) (step : Move) (n : ℕ) (q : PassView) (stepped : Steppe
   pub own_before : own p.seen.start (state_in (with_log p log)) p.number ≡ own_of p
   own_before =
       let start : Start = p.seen.start in
-      let first : Legal start p.seen.log (opened start) = (legal_parts start p.seen.log stepped.begins.0 (opened start) (subst (λ (l : List Event). Legal start l (opened start)) (sym stepped.begins.1) legal_before)).0 in
       sym (own_is start log p.number) ∙ own_same funnel start laws p.number p.seen.log log (is_legal start log is_start legal_before) stepped.begins stepped.events ∙ own_is start p.seen.log p.number
 
   pub made_before : ((state_in (with_log p log)).callers p.number).made ≡ ((state_in p.seen).callers p.number).made

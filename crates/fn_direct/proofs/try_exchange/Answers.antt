@@ -1,5 +1,5 @@
 use Rattle.std.proofs.Common.{refl}
-use Rattle.fn_direct.proofs.Joined.{exchange_calls, exchange_makes_none}
+use Rattle.fn_direct.proofs.Joined.{exchange_calls, exchange_alone, exchange_makes_none}
 use Rattle.fn_direct.proofs.try_exchange.Goals as goal
 
 pub returns-in-Ok-clause-called : goal.returns-in-Ok-clause-called
@@ -18,3 +18,6 @@ returns-in-Err-clause-lost c =
       c.in-Err.ensures.lost,
       exchange_makes_none c.args.pass.now c.requires.idle c.load_try-loaded.new.pass c.exchange.new.pass c.args.kind c.args.amount c.load_try-loaded.result c.in-Err.found load exchange c.in-Err.ensures.lost,
     )
+
+pub returns-in-Ok-clause-alone : goal.returns-in-Ok-clause-alone
+returns-in-Ok-clause-alone c = exchange_alone c.args.pass.now c.requires.idle c.load_try-loaded.new.pass c.exchange.new.pass c.args.kind c.args.amount c.load_try-loaded.result c.load_try-loaded.result c.load_try-loaded.ensures c.in-Ok.ensures.step refl
