@@ -1,0 +1,3 @@
+pub mod Funnelled
+pub mod Straight
+pub mod Calls

@@ -1,0 +1,167 @@
+//! Additions and subtractions that wait for their reply.
+ghost use Rattle.std.specs.Prelude.{◌≡◌, IfOk, IfErr, ◌≢◌};
+ghost use Rattle.fn_model.specs.declared.Kind.TheVariants.{Add, Sub};
+ghost use Rattle.fn_core.specs.Machine.{IsChange, MaySpend};
+ghost use Rattle.fn_core.specs.Calls.{state_in, IsIdle};
+ghost use Rattle.fn_core.specs.Entries.{IsAlone};
+ghost use Rattle.fn_table.specs.Seen.{IsOf};
+ghost use Rattle.fn_climb.specs.Steps.{IsLater};
+ghost use Rattle.fn_direct.specs.Called.{call_of, HasCalled, HasMadeNone, Tried};
+ghost use Rattle.fn_funnel.specs.Waiting.{Waited, IsAnswered, IsStraight, Exchanges, is_one_step};
+
+use crate::opening::Funnel;
+use crossbeam_utils::Backoff;
+use fn_climb::{Begun, Pending, Turn, begin};
+use fn_core::Blocked;
+use fn_direct::{Lost, add_capped, add_direct, sub_direct};
+use fn_layout::Kind;
+use fn_model::NO_CAP;
+use fn_table::{FunnelTable, Pass};
+use std::sync::Wait;
+
+/// The way that a call went.
+#[derive(Clone, Copy, Debug, PartialEq, Eq)]
+pub enum Way {
+    /// Through the aggregators.
+    Funnel,
+    /// To the main word by itself, since at some level each row of the pass was blocked, the last of them by this load.
+    Direct(Blocked),
+}
+
+/// What an addition or a subtraction met, and the way that it went.
+#[derive(Clone, Copy, Debug, PartialEq, Eq)]
+pub struct Added {
+    pub before: u64,
+    pub way: Way,
+}
+
+/// Adds, up to the cap, and gives the integer before. It may wait for the callers of its batch.
+pub fn add<R: Wait>(rt: &R, funnel: &Funnel, pass: Pass, amount: u64) -> (Pass, Added)
+    requires together { IsOf funnel.now pass }
+    requires idle { IsIdle pass.seen pass.number }
+    requires amount { MaySpend (state_in pass.seen) pass.number amount }
+    ensures { Waited pass Add amount result.1 result.0 }
+{
+    call(rt, funnel.table(), pass, Kind::Add, amount)
+}
+
+/// Subtracts, down to zero, and gives the integer before. It may wait for the callers of its batch.
+pub fn sub<R: Wait>(rt: &R, funnel: &Funnel, pass: Pass, amount: u64) -> (Pass, Added)
+    requires together { IsOf funnel.now pass }
+    requires idle { IsIdle pass.seen pass.number }
+    requires amount { MaySpend (state_in pass.seen) pass.number amount }
+    ensures { Waited pass Sub amount result.1 result.0 }
+{
+    call(rt, funnel.table(), pass, Kind::Sub, amount)
+}
+
+// Makes a call through the funnel, or past it where it finds no row.
+fn call<R: Wait>(rt: &R, table: &FunnelTable, pass: Pass, kind: Kind, amount: u64) -> (Pass, Added)
+    requires together { IsOf table.now pass }
+    requires idle { IsIdle pass.seen pass.number }
+    requires change { IsChange kind }
+    requires amount { MaySpend (state_in pass.seen) pass.number amount }
+    ensures { Waited pass kind amount result.1 result.0 }
+{
+    let _in_range = pass.number();
+    match begin(table, pass, kind, amount) {
+        Begun::Waiting(pending) => {
+            let (pass, before) = await_reply(rt, table, pending);
+            let way = Way::Funnel;
+            (pass, Added { before, way })
+        }
+        Begun::NoRow(pass, blocked) => {
+            let (pass, before) = go_straight(rt, table, pass, kind, amount);
+            let way = Way::Direct(blocked);
+            (pass, Added { before, way })
+        }
+    }
+}
+
+// Polls a call until it has its reply.
+fn await_reply<R: Wait>(rt: &R, table: &FunnelTable, pending: Pending) -> (Pass, u64)
+    requires together { IsOf table.now pending }
+    ensures { IsAnswered pending result.1 result.0 }
+{
+    let backoff = Backoff::new();
+    let mut pending = pending;
+    for _ in rt.forever() {
+        match pending.poll(table) {
+            Turn::Ready(pass, reply) => return (pass, reply),
+            Turn::NotYet(next, _) => pending = next,
+        }
+        backoff.snooze();
+    }
+    unreachable!()
+}
+
+/// Makes a call on the main word by itself, past the aggregators, and gives the integer before. It may wait where that takes an exchange.
+pub fn go_straight<R: Wait>(
+    rt: &R,
+    table: &FunnelTable,
+    mut pass: Pass,
+    kind: Kind,
+    amount: u64,
+) -> (Pass, u64)
+    requires together { IsOf table.now pass }
+    requires idle { IsIdle pass.seen pass.number }
+    requires change { IsChange kind }
+    requires amount { MaySpend (state_in pass.seen) pass.number amount }
+    ensures later { IsLater pass result.0 }
+    ensures way { IsStraight (is_one_step kind pass.seen.start.cap) pass kind amount result.1 result.0 }
+    ensures called { HasCalled pass kind amount result.1 result.0 }
+    ensures alone { IsAlone result.0.seen (call_of pass kind amount) }
+{
+    if kind == Kind::Add && table.cap() == NO_CAP {
+        let before = add_direct(table, &mut pass, amount);
+        (pass, before)
+    } else {
+        exchange(rt, table, pass, kind, amount)
+    }
+}
+
+// Makes a call by loads and exchanges of the main word, up to the first exchange that wins.
+fn exchange<R: Wait>(
+    rt: &R,
+    table: &FunnelTable,
+    pass: Pass,
+    kind: Kind,
+    amount: u64,
+) -> (Pass, u64)
+    requires together { IsOf table.now pass }
+    requires idle { IsIdle pass.seen pass.number }
+    requires change { IsChange kind }
+    requires amount { MaySpend (state_in pass.seen) pass.number amount }
+    ensures later { IsLater pass result.0 }
+    ensures way { Exchanges pass kind amount result.1 result.0 }
+    ensures called { HasCalled pass kind amount result.1 result.0 }
+    ensures alone { IsAlone result.0.seen (call_of pass kind amount) }
+{
+    let backoff = Backoff::new();
+    let mut pass = pass;
+    let _in_range = pass.number();
+    for _ in rt.forever() {
+        match try_exchange(table, &mut pass, kind, amount) {
+            Ok(before) => return (pass, before),
+            Err(_) => backoff.snooze(),
+        }
+    }
+    unreachable!()
+}
+
+// Loads the main word, and exchanges it for what the call makes of it.
+fn try_exchange(table: &FunnelTable, pass: &mut Pass, kind: Kind, amount: u64) -> Result<u64, Lost>
+    requires together { IsOf table.now pass.old }
+    requires idle { IsIdle pass.old.seen pass.old.number }
+    requires change { IsChange kind }
+    requires amount { MaySpend (state_in pass.old.seen) pass.old.number amount }
+    ensures called { IfOk result (λ reply. Tried pass.old kind amount reply reply pass.new × HasCalled pass.old kind amount reply pass.new) }
+    ensures alone { IfOk result (λ _. IsAlone pass.new.seen (call_of pass.old kind amount)) }
+    ensures lost { IfErr result (λ lost. Tried pass.old kind amount lost.loaded lost.found pass.new × (lost.found ≢ lost.loaded) × HasMadeNone pass.old pass.new) }
+{
+    match kind {
+        Kind::Add => add_capped(table, pass, amount),
+        Kind::Sub => sub_direct(table, pass, amount),
+        Kind::Read => unreachable!(),
+    }
+}
