@@ -1,0 +1,9 @@
+pub mod Growing
+pub mod Sharing
+pub mod Counting
+pub mod Told
+pub mod Keeping
+pub mod Dealing
+pub mod Parts
+pub mod Sound
+pub mod Ready

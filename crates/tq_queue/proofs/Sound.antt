@@ -1,0 +1,378 @@
+-- The laws of a closed queue.
+use Rattle.std.proofs.Common.{◌≡◌, ℕ, ◌+◌, ◌*◌, ◌≤◌, ◌<◌, List, [], ◌∷◌, ◌++◌, length, map, Bool, true, false, cond, Some, slice_get, refl, sym, ◌∙◌, ap, subst, arith, inl, inr, append_assoc}
+use Rattle.std.specs.Prelude.{◌==◌, All, sum, sum_by, nat_lt, nat_le, if◌then◌else◌, ◌&&◌}
+use Rattle.std.proofs.lemmas.Bool.Decides.{nat_tests}
+use Rattle.std.proofs.lemmas.Bool.{cases_lt}
+use Rattle.std.proofs.lemmas.List.{length-append}
+use Rattle.std.proofs.lemmas.List.Elements.{All-nil, All-cons, All-head, All-tail}
+use Rattle.std.proofs.lemmas.List.Sums.{sum_by-cons, sum_by-append}
+use mathlib.Core.List.{IsPrefix}
+use Rattle.running.specs.Running.{upto, numbers_from}
+use Rattle.fn_model.specs.declared.Call.{Call}
+use Rattle.fn_model.specs.Order.{sum_below}
+use Rattle.fn_model.specs.Integer.{after}
+use Rattle.fn_model.proofs.Spent.{All-history}
+use Rattle.fn_core.specs.declared.Event as funnel
+use Rattle.fn_core.specs.declared.Move.TheVariants.{Glance}
+use Rattle.fn_core.specs.State.{opened}
+use Rattle.fn_core.specs.Calls.{CoreLog, calls_in, state_in, IsLegal}
+use Rattle.fn_core.proofs.Counted.{opened_counted, log_counted}
+use Rattle.fn_core.proofs.Grows.{replies_are_bounded}
+use Rattle.fn_core.proofs.Log.{opened_whole}
+use Rattle.fn_table.specs.Seen.{TableView, PassView}
+use Rattle.tq_cells.specs.declared.entry.Entry.{Entry}
+use Rattle.tq_cells.specs.declared.entry.Entry.TheVariants as entries
+use Rattle.tq_cells.specs.declared.entry.Event.{Event}
+use Rattle.tq_cells.specs.declared.entry.Start as cell
+use Rattle.tq_cells.specs.Laws.{puts, takes, put_by, taken_by}
+use Rattle.tq_cells.specs.Seen.{entries_of}
+use Rattle.tq_cells.specs.Seen as cells
+use Rattle.tq_queue.specs.Answers.{Answered, answered, answers_of, raised, lowered, raised_by, lowered_by, AddsOne, AreTickets}
+use Rattle.tq_queue.specs.Seen.{QueueView, CallerView, BookView, Begins, HasClosed, IsOf, AreAll, IsClosed, value_of, allowance}
+use Rattle.tq_queue.specs.Kept.{own_answers, own_puts, own_takes, tickets_put, tickets_taken, ticket_put, ticket_taken, IsOpen, Keeps}
+use Rattle.tq_queue.specs.Laws.{Rises, IsSound}
+use Rattle.tq_queue.proofs.Counting.{IsBounded, balanced, numbered, counted, rising, tick, tally}
+use Rattle.tq_queue.proofs.Keeping.{sum-replicate}
+use Rattle.tq_queue.proofs.Parts.{there, below, all_at, get-map, all_between}
+use Rattle.tq_queue.proofs.Sharing.{shared, gathered, sum_below-same}
+use Rattle.tq_queue.proofs.Told.{answers_kept}
+
+-- all calls of a book, each with what it met
+pub book_answers : CoreLog → List Answered
+book_answers book = answered book.start.cap book.start.opening (calls_in book)
+
+-- no integer of a funnel's history comes near the cap
+book_bounded : (passes first : ℕ) (book : CoreLog) → IsLegal book → Begins passes first book.start → passes ≤ 64 → first ≤ 65536 → IsBounded book.start.cap book.start.opening (calls_in book)
+book_bounded passes first book legal b few small =
+    let all : sum book.start.allowances ≡ passes * allowance = ap sum b.allowances ∙ sum-replicate passes allowance in
+    let opening : book.start.opening ≡ first = b.opening in
+    let cap : book.start.cap ≡ 9223372036854775807 = b.cap in
+    record {
+      bound = book.start.opening + sum book.start.allowances;
+      below = omega (arith, all, opening, cap, few, small);
+      each = λ i. replies_are_bounded book.start book.log legal.0 legal.1 i;
+    }
+
+-- each call of a book is of one of its passes
+range_answered : (P : Call → Type 0) (cap v : ℕ) (calls : List Call) → All P calls → All (λ (a : Answered). P a.call) (answered cap v calls)
+range_answered P cap v [] all = All-nil (λ (a : Answered). P a.call)
+range_answered P cap v (c ∷ calls) all = All-cons (λ (a : Answered). P a.call) (record { call = c; met = v }) (answered cap (after cap v c.kind c.amount) calls) (All-head P c calls all) (range_answered P cap (after cap v c.kind c.amount) calls (All-tail P c calls all))
+
+book_range : (passes first : ℕ) (book : CoreLog) → IsLegal book → Begins passes first book.start → All (λ (a : Answered). a.call.pass < passes) (book_answers book)
+unfolding book_answers
+book_range passes first book legal b =
+    let all = log_counted book.start legal.0 book.log (opened book.start) (opened_whole book.start legal.0) (opened_counted book.start) legal.1 in
+    let each = all.1.each in
+    let P : Call → Type 0 = λ call. call.pass < book.start.shape.passes in
+    subst (λ (n : ℕ). All (λ (a : Answered). a.call.pass < n) (book_answers book)) b.shape.0
+    (range_answered P book.start.cap book.start.opening (calls_in book) (All-history P (state_in book).arrivals book.start.shape.levels (state_in book).steps each.arrivals each.main))
+
+-- a pass's answers in the book are those that it has been told
+book_own : (t : TableView) (ps : List PassView) (book : CoreLog) → HasClosed t ps book → (k : ℕ) (p : PassView) → slice_get ps k ≡ Some p → p.seen.start ≡ t.start → answers_of p.number (book_answers book) ≡ own_answers p
+unfolding book_answers
+book_own t ps book closed k p here start =
+    let has = closed.closed.each k p here in
+    let glance : List funnel.Event = record { pass = 0; step = Glance } ∷ [] in
+    let begins : IsPrefix p.seen.log book.log = (has.begins.0 ++ glance, sym (append_assoc p.seen.log has.begins.0 glance) ∙ ap (λ (l : List funnel.Event). l ++ glance) has.begins.1 ∙ sym closed.closed.last) in
+    answers_kept p.number p.seen book (closed.start ∙ sym start) closed.closed.legal begins (closed.calls k p here)
+
+length_answered : (cap v : ℕ) (calls : List Call) → length (answered cap v calls) ≡ length calls
+length_answered cap v [] = refl
+length_answered cap v (c ∷ calls) = let rest : length (answered cap (after cap v c.kind c.amount) calls) ≡ length calls = length_answered cap (after cap v c.kind c.amount) calls in omega arith
+
+sum_by-over : {X Y : Type 0} (w : Y → ℕ) (f : X → Y) (xs : List X) → sum_by (λ x. w (f x)) xs ≡ sum_by w (map f xs)
+sum_by-over w f [] = refl
+sum_by-over w f (x ∷ xs) = omega (arith, sum_by-cons (λ y. w (f y)) x xs, sum_by-cons w (f x) (map f xs), sum_by-over w f xs)
+
+pub ones : {X : Type 0} (xs : List X) → sum_by (λ x. 1) xs ≡ length xs
+ones [] = refl
+ones (x ∷ xs) = let rest : sum_by (λ y. 1) xs ≡ length xs = ones xs in omega (arith, sum_by-cons (λ y. 1) x xs, rest)
+
+module _ (n : ℕ) (tickets : ℕ → List ℕ) (answers : List Answered) (range : All (λ (a : Answered). a.call.pass < n) answers) (each : (p : ℕ) → p < n → AreTickets (answers_of p answers) (tickets p)) where
+  pub all_ones : All AddsOne answers
+  all_ones = gathered (λ (a : Answered). a.call.pass) AddsOne n answers range (λ p l. (each p l).ones)
+
+  -- as many answers as all passes have tickets
+  all_tickets : sum_below n (λ p. length (tickets p)) ≡ length answers
+  all_tickets =
+      sym (shared (λ (a : Answered). a.call.pass) (λ a. 1) n answers range ∙ sum_below-same n (λ p. sum_by (λ a. 1) (answers_of p answers)) (λ p. length (tickets p)) (λ p l. ones (answers_of p answers) ∙ sized p l)) ∙ ones answers
+    where
+      counted_by : (xs : List Answered) → length (map (λ (a : Answered). a.met) xs) ≡ length xs
+      counted_by [] = refl
+      counted_by (x ∷ xs) = let rest : length (map (λ (a : Answered). a.met) xs) ≡ length xs = counted_by xs in omega arith
+
+      sized : (p : ℕ) → p < n → length (answers_of p answers) ≡ length (tickets p)
+      sized p l = sym (counted_by (answers_of p answers)) ∙ ap length (each p l).met
+
+  -- what calls elsewhere add up to, each pass as many as it has tickets
+  pub as_many : (others : List Answered) (weight : Answered → ℕ) → All (λ (a : Answered). a.call.pass < n) others → ((p : ℕ) → p < n → sum_by weight (answers_of p others) ≡ length (tickets p)) → sum_by weight others ≡ length answers
+  as_many others weight others_range same = shared (λ (a : Answered). a.call.pass) weight n others others_range ∙ sum_below-same n (λ p. sum_by weight (answers_of p others)) (λ p. length (tickets p)) same ∙ all_tickets
+
+  -- each ticket is met as often as it stands among the tickets
+  pub as_often : (t : ℕ) → sum_below n (λ p. sum_by (tick t) (tickets p)) ≡ sum_by (tick t) (map (λ (a : Answered). a.met) answers)
+  as_often t =
+      sum_below-same n (λ p. sum_by (tick t) (tickets p)) (λ p. sum_by (λ (a : Answered). tick t a.met) (answers_of p answers)) (λ p l. ap (sum_by (tick t)) (sym (each p l).met) ∙ sym (sum_by-over (tick t) (λ (a : Answered). a.met) (answers_of p answers)))
+      ∙ sym (shared (λ (a : Answered). a.call.pass) (λ (a : Answered). tick t a.met) n answers range)
+      ∙ sum_by-over (tick t) (λ (a : Answered). a.met) answers
+
+-- how often a ticket is put, and taken
+module _ {T : Type 0} where
+  put_weight : (t : ℕ) (entry : Entry T) → length (put_by t entry) ≡ sum_by (tick t) (ticket_put entry)
+  put_weight t (entries.Hold ticket) = refl
+  put_weight t (entries.Put ticket x) = once (ticket == t)
+    where
+      once : (b : Bool) → length (cond b (x ∷ []) []) ≡ 0 + cond b 1 0
+      once true = omega arith
+      once false = omega arith
+  put_weight t (entries.Take ticket) = refl
+  put_weight t (entries.Free ticket) = refl
+  put_weight t (entries.Miss expected found) = refl
+
+  taken_weight : (t : ℕ) (entry : Entry T) → taken_by t entry ≡ sum_by (tick t) (ticket_taken entry)
+  taken_weight t (entries.Hold ticket) = refl
+  taken_weight t (entries.Put ticket x) = refl
+  taken_weight t (entries.Take ticket) = omega arith
+  taken_weight t (entries.Free ticket) = refl
+  taken_weight t (entries.Miss expected found) = refl
+
+  pub puts_sum : (t : ℕ) (log : List (Event T)) → length (puts t log) ≡ sum_by (λ (e : Event T). sum_by (tick t) (ticket_put e.entry)) log
+  puts_sum t [] = refl
+  puts_sum t (e ∷ log) = omega (arith, length-append (put_by t e.entry) (puts t log), sum_by-cons (λ (x : Event T). sum_by (tick t) (ticket_put x.entry)) e log, puts_sum t log, put_weight t e.entry)
+
+  pub takes_sum : (t : ℕ) (log : List (Event T)) → takes t log ≡ sum_by (λ (e : Event T). sum_by (tick t) (ticket_taken e.entry)) log
+  takes_sum t [] = refl
+  takes_sum t (e ∷ log) = omega (arith, sum_by-cons (λ (x : Event T). sum_by (tick t) (ticket_taken x.entry)) e log, takes_sum t log, taken_weight t e.entry)
+
+  pub tickets_put_sum : (t : ℕ) (log : List (Event T)) → sum_by (λ (e : Event T). sum_by (tick t) (ticket_put e.entry)) log ≡ sum_by (tick t) (tickets_put log)
+  tickets_put_sum t [] = refl
+  tickets_put_sum t (e ∷ log) = omega (arith, sum_by-append (tick t) (ticket_put e.entry) (tickets_put log), sum_by-cons (λ (x : Event T). sum_by (tick t) (ticket_put x.entry)) e log, tickets_put_sum t log)
+
+  pub tickets_taken_sum : (t : ℕ) (log : List (Event T)) → sum_by (λ (e : Event T). sum_by (tick t) (ticket_taken e.entry)) log ≡ sum_by (tick t) (tickets_taken log)
+  tickets_taken_sum t [] = refl
+  tickets_taken_sum t (e ∷ log) = omega (arith, sum_by-append (tick t) (ticket_taken e.entry) (tickets_taken log), sum_by-cons (λ (x : Event T). sum_by (tick t) (ticket_taken x.entry)) e log, tickets_taken_sum t log)
+
+  pub put_often : (n t : ℕ) (log : List (Event T)) → All (λ (e : Event T). e.seat < n) log → length (puts t log) ≡ sum_below n (λ p. sum_by (tick t) (tickets_put (entries_of p log)))
+  put_often n t log range =
+      let w : Event T → ℕ = λ e. sum_by (tick t) (ticket_put e.entry) in
+      puts_sum t log ∙ shared (λ (e : Event T). e.seat) w n log range ∙ sum_below-same n (λ p. sum_by w (entries_of p log)) (λ p. sum_by (tick t) (tickets_put (entries_of p log))) (λ p l. tickets_put_sum t (entries_of p log))
+
+  pub taken_often : (n t : ℕ) (log : List (Event T)) → All (λ (e : Event T). e.seat < n) log → takes t log ≡ sum_below n (λ p. sum_by (tick t) (tickets_taken (entries_of p log)))
+  taken_often n t log range =
+      let w : Event T → ℕ = λ e. sum_by (tick t) (ticket_taken e.entry) in
+      takes_sum t log ∙ shared (λ (e : Event T). e.seat) w n log range ∙ sum_below-same n (λ p. sum_by w (entries_of p log)) (λ p. sum_by (tick t) (tickets_taken (entries_of p log))) (λ p l. tickets_taken_sum t (entries_of p log))
+
+  -- a seat that there isn't has no entries
+  pub none_by : (n p : ℕ) (log : List (Event T)) → All (λ (e : Event T). e.seat < n) log → n ≤ p → entries_of p log ≡ []
+  none_by n p [] range beyond = refl
+  none_by n p (e ∷ log) range beyond =
+      let P : Event T → Type 0 = λ x. x.seat < n in
+      let here : e.seat < n = All-head P e log range in
+      let other : (e.seat == p) ≡ false = grind (arith, nat_tests) in
+      ap (λ (b : Bool). cond b (e ∷ entries_of p log) (entries_of p log)) other ∙ none_by n p log (All-tail P e log range) beyond
+
+-- two lists at the numbers below zero
+from_zero : (t n : ℕ) → ◌≡◌ {A = ℕ} (if nat_le 0 t && nat_lt t (0 + n) then 1 else 0) (if nat_lt t n then 1 else 0)
+from_zero t n = grind (arith, nat_tests)
+
+module _ {T : Type 0} (q : QueueView) (ps : List (CallerView T)) (b : BookView T) (is_open : IsOpen q) (all : AreAll q ps) (together : All (IsOf q) ps) (kept : All Keeps ps) (closed : IsClosed q ps b) where
+  abbrev n : ℕ
+  n = q.cells.start.seats
+
+  abbrev log : List (Event T)
+  log = b.cells.log
+
+  abbrev number : CallerView T → ℕ
+  number p = p.seat.number
+
+  seats_below : All (λ (e : Event T). e.seat < n) log
+  seats_below =
+      all_between (λ (e : Event T). e.seat < n) [] log log refl (λ earlier later e is.
+      let by = closed.cells.only earlier later e is in
+      let seat_below : by.1.number < n = seat_at by.0 by.1 by.2 in
+      omega (arith, by.3, seat_below))
+    where
+      numbered_seats : map (λ (s : cells.SeatView T). s.number) (map (λ (p : CallerView T). p.seat) ps) ≡ upto n
+      numbered_seats = twice ps ∙ all
+        where
+          twice : (xs : List (CallerView T)) → map (λ (s : cells.SeatView T). s.number) (map (λ (p : CallerView T). p.seat) xs) ≡ map (λ (p : CallerView T). p.seat.number) xs
+          twice [] = refl
+          twice (x ∷ xs) = ap (λ (ns : List ℕ). x.seat.number ∷ ns) (twice xs)
+
+      seat_at : (k : ℕ) (s : cells.SeatView T) → slice_get (map (λ (p : CallerView T). p.seat) ps) k ≡ Some s → s.number < n
+      seat_at k s here = below (λ (x : cells.SeatView T). x.number) n (map (λ (p : CallerView T). p.seat) ps) numbered_seats k s here
+
+  module _ (p : ℕ) (range : p < n) where
+    abbrev this : CallerView T
+    this = (there number n ps all p range).it
+
+    at : slice_get ps p ≡ Some this
+    at = (there number n ps all p range).is
+
+    is_p : this.seat.number ≡ p
+    is_p = (there number n ps all p range).by
+
+    keeps : Keeps this
+    keeps = all_at Keeps ps p this kept at
+
+    of : IsOf q this
+    of = all_at (IsOf q) ps p this together at
+
+    entries_same : entries_of p log ≡ entries_of this.seat.number this.seat.log
+    entries_same = ap (λ (k : ℕ). entries_of k log) (sym is_p) ∙ (closed.cells.each p this.seat (get-map (λ (x : CallerView T). x.seat) ps p this at)).own
+
+    puts_same : tickets_put (entries_of p log) ≡ own_puts this.seat
+    puts_same = ap tickets_put entries_same
+
+    takes_same : tickets_taken (entries_of p log) ≡ own_takes this.seat
+    takes_same = ap tickets_taken entries_same
+
+    tail_same : answers_of p (book_answers b.tail) ≡ own_answers this.tail
+    tail_same = ap (λ (k : ℕ). answers_of k (book_answers b.tail)) (sym (keeps.numbers.0 ∙ is_p)) ∙ book_own q.tail (map (λ (x : CallerView T). x.tail) ps) b.tail closed.tail p this.tail (get-map (λ (x : CallerView T). x.tail) ps p this at) of.1.1
+
+    head_same : answers_of p (book_answers b.head) ≡ own_answers this.head
+    head_same = ap (λ (k : ℕ). answers_of k (book_answers b.head)) (sym (keeps.numbers.1 ∙ is_p)) ∙ book_own q.head (map (λ (x : CallerView T). x.head) ps) b.head closed.head p this.head (get-map (λ (x : CallerView T). x.head) ps p this at) of.2.1
+
+    free_same : answers_of p (book_answers b.free) ≡ own_answers this.free
+    free_same = ap (λ (k : ℕ). answers_of k (book_answers b.free)) (sym (keeps.numbers.2 ∙ is_p)) ∙ book_own q.free (map (λ (x : CallerView T). x.free) ps) b.free closed.free p this.free (get-map (λ (x : CallerView T). x.free) ps p this at) of.3.1
+
+    items_same : answers_of p (book_answers b.items) ≡ own_answers this.items
+    items_same = ap (λ (k : ℕ). answers_of k (book_answers b.items)) (sym (keeps.numbers.3 ∙ is_p)) ∙ book_own q.items (map (λ (x : CallerView T). x.items) ps) b.items closed.items p this.items (get-map (λ (x : CallerView T). x.items) ps p this at) of.4.1
+
+    tail_each : AreTickets (answers_of p (book_answers b.tail)) (tickets_put (entries_of p log))
+    tail_each = subst (λ (xs : List Answered). AreTickets xs (tickets_put (entries_of p log))) (sym tail_same) (subst (AreTickets (own_answers this.tail)) (sym puts_same) keeps.tail)
+
+    head_each : AreTickets (answers_of p (book_answers b.head)) (tickets_taken (entries_of p log))
+    head_each = subst (λ (xs : List Answered). AreTickets xs (tickets_taken (entries_of p log))) (sym head_same) (subst (AreTickets (own_answers this.head)) (sym takes_same) keeps.head)
+
+    free_puts : lowered (answers_of p (book_answers b.free)) ≡ length (tickets_put (entries_of p log))
+    free_puts = ap lowered free_same ∙ keeps.free.0 ∙ ap length (sym puts_same)
+
+    free_takes : raised (answers_of p (book_answers b.free)) ≡ length (tickets_taken (entries_of p log))
+    free_takes = ap raised free_same ∙ keeps.free.1 ∙ ap length (sym takes_same)
+
+    items_puts : raised (answers_of p (book_answers b.items)) ≡ length (tickets_put (entries_of p log))
+    items_puts = ap raised items_same ∙ keeps.items.0 ∙ ap length (sym puts_same)
+
+    items_takes : lowered (answers_of p (book_answers b.items)) ≡ length (tickets_taken (entries_of p log))
+    items_takes = ap lowered items_same ∙ keeps.items.1 ∙ ap length (sym takes_same)
+
+  begins : (first : ℕ) (t : TableView) (passes : List PassView) (book : CoreLog) → HasClosed t passes book → Begins n first t.start → Begins n first book.start
+  begins first t passes book c is = subst (Begins n first) (sym c.start) is
+
+  tail_begins : Begins n 0 b.tail.start
+  tail_begins = begins 0 q.tail (map (λ (x : CallerView T). x.tail) ps) b.tail closed.tail is_open.begin.tail
+
+  head_begins : Begins n 0 b.head.start
+  head_begins = begins 0 q.head (map (λ (x : CallerView T). x.head) ps) b.head closed.head is_open.begin.head
+
+  free_begins : Begins n q.cells.start.capacity b.free.start
+  free_begins = begins q.cells.start.capacity q.free (map (λ (x : CallerView T). x.free) ps) b.free closed.free is_open.begin.free
+
+  items_begins : Begins n 0 b.items.start
+  items_begins = begins 0 q.items (map (λ (x : CallerView T). x.items) ps) b.items closed.items is_open.begin.items
+
+  tail_range : All (λ (a : Answered). a.call.pass < n) (book_answers b.tail)
+  tail_range = book_range n 0 b.tail closed.tail.closed.legal tail_begins
+
+  head_range : All (λ (a : Answered). a.call.pass < n) (book_answers b.head)
+  head_range = book_range n 0 b.head closed.head.closed.legal head_begins
+
+  free_range : All (λ (a : Answered). a.call.pass < n) (book_answers b.free)
+  free_range = book_range n q.cells.start.capacity b.free closed.free.closed.legal free_begins
+
+  items_range : All (λ (a : Answered). a.call.pass < n) (book_answers b.items)
+  items_range = book_range n 0 b.items closed.items.closed.legal items_begins
+
+  bounded : (first : ℕ) (book : CoreLog) → IsLegal book → Begins n first book.start → first ≤ 65536 → IsBounded book.start.cap book.start.opening (calls_in book)
+  bounded first book legal is small = book_bounded n first book legal is is_open.sizes.3 small
+
+  -- the integer of a funnel of tickets, and what its calls met
+  module _ (book : CoreLog) (legal : IsLegal book) (is : Begins n 0 book.start) (ones_all : All AddsOne (book_answers book)) where
+    value_is : value_of book ≡ length (book_answers book)
+    unfolding book_answers
+    value_is =
+        let opening : book.start.opening ≡ 0 = is.opening in
+        omega (arith, counted book.start.cap book.start.opening (calls_in book) (bounded 0 book legal is (omega arith)) ones_all, length_answered book.start.cap book.start.opening (calls_in book), opening)
+
+    mets_are : map (λ (a : Answered). a.met) (book_answers book) ≡ numbers_from 0 (value_of book)
+    unfolding book_answers
+    mets_are =
+        numbered book.start.cap book.start.opening (calls_in book) (bounded 0 book legal is (omega arith)) ones_all
+        ∙ ap (λ (v : ℕ). numbers_from v (length (calls_in book))) is.opening
+        ∙ ap (numbers_from 0) (sym (length_answered book.start.cap book.start.opening (calls_in book)) ∙ sym value_is)
+
+    once_each : (t : ℕ) → sum_by (tick t) (map (λ (a : Answered). a.met) (book_answers book)) ≡ (if nat_lt t (value_of book) then 1 else 0)
+    once_each t = ap (sum_by (tick t)) mets_are ∙ tally t 0 (value_of book) ∙ from_zero t (value_of book)
+
+    rises : (p : ℕ) → Rises 0 (map (λ (a : Answered). a.met) (answers_of p (book_answers book)))
+    unfolding book_answers
+    rises p = rising book.start.cap p book.start.opening 0 (calls_in book) (bounded 0 book legal is (omega arith)) ones_all (omega arith)
+
+  tail_ones : All AddsOne (book_answers b.tail)
+  tail_ones = all_ones n (λ p. tickets_put (entries_of p log)) (book_answers b.tail) tail_range tail_each
+
+  head_ones : All AddsOne (book_answers b.head)
+  head_ones = all_ones n (λ p. tickets_taken (entries_of p log)) (book_answers b.head) head_range head_each
+
+  no_entries : (p : ℕ) → n ≤ p → entries_of p log ≡ []
+  no_entries p beyond = none_by n p log seats_below beyond
+
+  puts_rise : (p : ℕ) → Rises 0 (tickets_put (entries_of p log))
+  puts_rise p = elim (cases_lt p n) [
+    | inl range ↦ subst (Rises 0) (tail_each p range).met (rises b.tail closed.tail.closed.legal tail_begins tail_ones p)
+    | inr beyond ↦ subst (Rises 0) (sym (ap tickets_put (no_entries p beyond))) tt
+  ]
+
+  takes_rise : (p : ℕ) → Rises 0 (tickets_taken (entries_of p log))
+  takes_rise p = elim (cases_lt p n) [
+    | inl range ↦ subst (Rises 0) (head_each p range).met (rises b.head closed.head.closed.legal head_begins head_ones p)
+    | inr beyond ↦ subst (Rises 0) (sym (ap tickets_taken (no_entries p beyond))) tt
+  ]
+
+  put_once : (t : ℕ) → length (puts t log) ≡ (if nat_lt t (value_of b.tail) then 1 else 0)
+  put_once t = put_often n t log seats_below ∙ as_often n (λ p. tickets_put (entries_of p log)) (book_answers b.tail) tail_range tail_each t ∙ once_each b.tail closed.tail.closed.legal tail_begins tail_ones t
+
+  taken_once : (t : ℕ) → takes t log ≡ (if nat_lt t (value_of b.head) then 1 else 0)
+  taken_once t = taken_often n t log seats_below ∙ as_often n (λ p. tickets_taken (entries_of p log)) (book_answers b.head) head_range head_each t ∙ once_each b.head closed.head.closed.legal head_begins head_ones t
+
+  abbrev tails : ℕ
+  tails = value_of b.tail
+
+  abbrev heads : ℕ
+  heads = value_of b.head
+
+  free_lowered : lowered (book_answers b.free) ≡ tails
+  free_lowered = as_many n (λ p. tickets_put (entries_of p log)) (book_answers b.tail) tail_range tail_each (book_answers b.free) (λ (a : Answered). lowered_by a.call.kind a.call.amount a.met) free_range free_puts ∙ sym (value_is b.tail closed.tail.closed.legal tail_begins tail_ones)
+
+  free_raised : raised (book_answers b.free) ≡ heads
+  free_raised = as_many n (λ p. tickets_taken (entries_of p log)) (book_answers b.head) head_range head_each (book_answers b.free) (λ (a : Answered). raised_by a.call.kind a.call.amount) free_range free_takes ∙ sym (value_is b.head closed.head.closed.legal head_begins head_ones)
+
+  items_raised : raised (book_answers b.items) ≡ tails
+  items_raised = as_many n (λ p. tickets_put (entries_of p log)) (book_answers b.tail) tail_range tail_each (book_answers b.items) (λ (a : Answered). raised_by a.call.kind a.call.amount) items_range items_puts ∙ sym (value_is b.tail closed.tail.closed.legal tail_begins tail_ones)
+
+  items_lowered : lowered (book_answers b.items) ≡ heads
+  items_lowered = as_many n (λ p. tickets_taken (entries_of p log)) (book_answers b.head) head_range head_each (book_answers b.items) (λ (a : Answered). lowered_by a.call.kind a.call.amount a.met) items_range items_takes ∙ sym (value_is b.head closed.head.closed.legal head_begins head_ones)
+
+  free_balance : value_of b.free + tails ≡ b.cells.start.capacity + heads
+  unfolding book_answers
+  free_balance =
+      let opening : b.free.start.opening ≡ q.cells.start.capacity = free_begins.opening in
+      let capacity : b.cells.start.capacity ≡ q.cells.start.capacity = ap (λ (s : cell.Start). s.capacity) closed.start in
+      omega (arith, balanced b.free.start.cap b.free.start.opening (calls_in b.free) (bounded q.cells.start.capacity b.free closed.free.closed.legal free_begins is_open.sizes.1), free_lowered, free_raised, opening, capacity)
+
+  items_balance : value_of b.items + heads ≡ tails
+  unfolding book_answers
+  items_balance =
+      let opening : b.items.start.opening ≡ 0 = items_begins.opening in
+      omega (arith, balanced b.items.start.cap b.items.start.opening (calls_in b.items) (bounded 0 b.items closed.items.closed.legal items_begins (omega arith)), items_lowered, items_raised, opening)
+
+  pub sound : IsSound b
+  sound = record {
+    puts = put_once;
+    takes = taken_once;
+    rising_puts = puts_rise;
+    rising_takes = takes_rise;
+    order = (omega (arith, items_balance), omega (arith, free_balance));
+    items = omega (arith, items_balance);
+    free = omega (arith, items_balance, free_balance);
+  }
