@@ -1,0 +1,159 @@
+-- A desk after one of its passes has made a call.
+use Rattle.std.proofs.Common.{◌≡◌, ◌<◌, ◌≤◌, ◌⊎◌, get_or, get_or-set_same, get_or-set_other, ◌-◌, min, true, false, ℕ, List, map, set, length, slice_get, Option, Some, None, Bool, Vec, refl, sym, ap, ◌∙◌, subst, arith, inl, inr}
+use Rattle.std.proofs.lemmas.List.{with_items_is, set-set, length-set}
+use Rattle.std.proofs.lemmas.Bool.{cases_eq}
+use Rattle.std.proofs.lemmas.Option.{slice_get_cases, slice_get_within, get_or_from_slice_get}
+use Rattle.std.specs.declared.alloc.Global.{Global}
+use Rattle.std.specs.Vec.{with_item, with_items}
+use Rattle.fn_model.specs.declared.Kind.{Kind}
+use Rattle.fn_model.specs.declared.Kind.TheVariants.{Add, Sub, Read}
+use Rattle.fn_core.specs.declared.Start.{Start}
+use Rattle.fn_core.specs.Calls.{IsIdle}
+use Rattle.fn_core.specs.Entries.{IsAlone}
+use Rattle.fn_core.proofs.Mirror.{slice_get-set_same, slice_get-set_other}
+use Rattle.fn_core.specs.declared.Move.TheVariants.{Load}
+use Rattle.fn_core.specs.declared.Purpose.TheVariants as purpose
+use Rattle.fn_table.specs.Seen.{TableView, PassView, IsOf, Stepped}
+use Rattle.fn_climb.specs.Steps.{IsLater}
+use Rattle.fn_climb.proofs.Onward.{later_by}
+use Rattle.fn_direct.specs.Called.{call_of, HasCalled}
+use Rattle.fn_funnel.specs.declared.waiting.Added.{Added}
+use Rattle.fn_funnel.specs.Waiting.{Waited, IsStraight, is_one_step}
+use Rattle.quota_pool.specs.declared.moved.Moved.{Moved}
+use Rattle.quota_pool.specs.declared.closing.Closing.{Closing}
+use Rattle.quota_pool.specs.Rooms.{HasPlace, KeepsRoom}
+use Rattle.quota_pool.specs.Views.{PoolView, DeskView, held, AreFull, Belongs}
+use Rattle.quota_pool.specs.Calls.{Called, CallsAt}
+use Rattle.quota_pool.proofs.Places.{held-map, full-map, held-set}
+
+-- where two lookups of one place have found something, they have found the same
+found_same : {A : Type 0} (o : Option A) (x y : A) → o ≡ Some x → o ≡ Some y → x ≡ y
+found_same o x y e f = let both : Some x ≡ Some y = sym e ∙ f in cc
+
+-- a place of a changed list holds what was written, or what it held before
+pub written : {A : Type 0} (xs : List A) (i j : ℕ) (x y : A) → slice_get (set xs i x) j ≡ Some y → ((j ≡ i) × (y ≡ x)) ⊎ (slice_get xs j ≡ Some y)
+written xs i j x y at =
+    let inside : j < length xs = subst (λ n. j < n) (length-set xs i x) (slice_get_within (set xs i x) j y at) in
+    elim (cases_eq j i) [
+      | inl same ↦
+          let here : slice_get (set xs i x) i ≡ Some x = slice_get-set_same xs i x (subst (λ n. n < length xs) same inside) in
+          inl (same, found_same (slice_get (set xs i x) i) y x (ap (λ n. slice_get (set xs i x) n) (sym same) ∙ at) here)
+      | inr other ↦
+          elim ((slice_get_cases xs j).1) [
+            | inl (z, within, was, got) ↦
+                let still : slice_get (set xs i x) j ≡ Some z = slice_get-set_other xs i j x z other was in
+                inr (was ∙ ap (λ v. Some v) (found_same (slice_get (set xs i x) j) z y still at))
+            | inr past ↦ absurd (omega (arith, inside, past.0))
+          ]
+    ]
+
+-- a desk with another pass at a tenant
+abbrev with_pass : DeskView → ℕ → PassView → DeskView
+with_pass desk tenant q = record { worker = desk.worker; passes = set desk.passes tenant q }
+
+module _ (pool : PoolView) (old : DeskView) (belongs : Belongs pool old) (tenant : ℕ) (p q : PassView) (kind : Kind) (through : Bool) (amount : ℕ) (answer : Moved)
+    (at : slice_get old.passes tenant ≡ Some p) (called : Called p kind through amount answer q) where
+  abbrev new : DeskView
+  new = with_pass old tenant q
+
+  each : (t : ℕ) (table : TableView) (pass : PassView) → slice_get pool.tables t ≡ Some table → slice_get new.passes t ≡ Some pass → IsOf table pass × (pass.number ≡ old.worker) × IsIdle pass.seen pass.number
+  each t table pass here there =
+      elim (written old.passes tenant t q pass there) [
+        | inl (same, is) ↦
+            let was = belongs.each t table p here (ap (λ n. slice_get old.passes n) same ∙ at) in
+            let later = called.later in
+            let Stands : PassView → Type 0 = λ v. IsOf table v × (v.number ≡ old.worker) × IsIdle v.seen v.number in
+            let idle : IsIdle q.seen q.number = subst (λ n. IsIdle q.seen n) (sym later.number) called.called.idle in
+            let stands : Stands q = ((later.table ∙ was.0.0, later.start ∙ was.0.1), later.number ∙ was.1, idle) in
+            subst Stands (sym is) stands
+        | inr still ↦ belongs.each t table pass here still
+      ]
+
+  -- the desk is still one of the pool
+  pub belongs_after : Belongs pool new
+  belongs_after = record { tenants = length-set old.passes tenant q ∙ belongs.tenants; worker = belongs.worker; each = each }
+
+module _ (old : DeskView) (worker : ℕ) (v : Vec (Option PassView) Global) (shown ws : List (Option PassView)) (tenant : ℕ) (q : PassView)
+    (is : (record { worker = worker; passes = held v.items }) ≡ old) (full : AreFull v.items) (all : shown ≡ v.items) (taken : ws ≡ set shown tenant None) where
+  abbrev places : List (Option PassView)
+  places = (with_item (with_items v ws) tenant (Some q)).items
+
+  -- the pass stands in its place again
+  placed : places ≡ map Some (set (held v.items) tenant q)
+  placed =
+      let without : ws ≡ set v.items tenant None = taken ∙ ap (λ xs. set xs tenant None) all in
+      let len : length ws ≡ v.len = ap length without ∙ length-set v.items tenant None ∙ sym v.ok.0 in
+      ap (λ xs. set xs tenant (Some q)) (with_items_is v ws len ∙ without) ∙ set-set v.items tenant None (Some q) ∙ held-set v.items tenant q full
+
+  pub full_again : AreFull places
+  full_again = subst (λ xs. AreFull xs) (sym placed) (full-map (set (held v.items) tenant q))
+
+  -- the desk has it in place of the one that it had
+  desk_after : (record { worker = worker; passes = held places }) ≡ with_pass old tenant q
+  desk_after =
+      let here : held places ≡ set (held v.items) tenant q = ap held placed ∙ held-map (set (held v.items) tenant q) in
+      (λ i. record { worker = worker; passes = here i }) ∙ ap (λ (d : DeskView). with_pass d tenant q) is
+
+  -- it had the pass that was taken out
+  pub had : (p : PassView) → slice_get (held shown) tenant ≡ Some p → slice_get old.passes tenant ≡ Some p
+  had p found = ap (λ (d : DeskView). slice_get d.passes tenant) (sym is) ∙ ap (λ xs. slice_get (held xs) tenant) (sym all) ∙ found
+
+  pub makes_call : (pool : PoolView) → Belongs pool old → (p : PassView) (kind : Kind) (through : Bool) (amount : ℕ) (answer : Moved) → slice_get (held shown) tenant ≡ Some p → Called p kind through amount answer q
+      → CallsAt pool old tenant kind through amount answer (record { worker = worker; passes = held places })
+  makes_call pool belongs p kind through amount answer found called = record {
+    pass = p;
+    after = q;
+    at = had p found;
+    called = called;
+    desk = desk_after;
+    together = subst (λ (d : DeskView). Belongs pool d) (sym desk_after) (belongs_after pool old belongs tenant p q kind through amount answer (had p found) called);
+  }
+
+-- the cap of a desk's pass is that of its table
+pub cap_is : (pool : PoolView) (desk : DeskView) (tenant : ℕ) (table : TableView) (p : PassView) → Belongs pool desk → slice_get pool.tables tenant ≡ Some table → slice_get desk.passes tenant ≡ Some p → p.seen.start.cap ≡ table.start.cap
+cap_is pool desk tenant table p belongs here there = ap (λ (start : Start). start.cap) ((belongs.each tenant table p here there).0.1)
+
+-- an addition that waited for its reply
+pub added_by : (p q : PassView) (amount : ℕ) (added : Added) (n cap : ℕ) → Waited p Add amount added q → p.seen.start.cap ≡ cap → n ≡ min amount (cap - added.before) → Called p Add true amount (record { before = added.before; moved = n; way = Some added.way }) q
+added_by p q amount added n cap waited is moved = record {
+  later = waited.later;
+  called = waited.called;
+  moved = moved ∙ ap (λ limit. min amount (limit - added.before)) (sym is);
+  way = waited.way;
+  entered = waited.entered;
+}
+
+-- a subtraction
+pub taken_by : (p q : PassView) (amount : ℕ) (added : Added) (n : ℕ) → Waited p Sub amount added q → n ≡ min amount added.before → Called p Sub true amount (record { before = added.before; moved = n; way = Some added.way }) q
+taken_by p q amount added n waited moved = record { later = waited.later; called = waited.called; moved = moved; way = waited.way; entered = waited.entered }
+
+-- an addition past the funnel
+pub directed_by : (p q : PassView) (amount before n cap : ℕ) → IsLater p q → HasCalled p Add amount before q → IsStraight (is_one_step Add p.seen.start.cap) p Add amount before q → p.seen.start.cap ≡ cap → n ≡ min amount (cap - before) → IsAlone q.seen (call_of p Add amount)
+    → Called p Add false amount (record { before = before; moved = n; way = None }) q
+directed_by p q amount before n cap later called way is moved alone = record { later = later; called = called; moved = moved ∙ ap (λ limit. min amount (limit - before)) (sym is); way = way; entered = alone }
+
+-- a read
+pub read_by : (p q : PassView) (before : ℕ) → Stepped p (Load purpose.Read) before q → HasCalled p Read 0 before q → IsAlone q.seen (call_of p Read 0) → Called p Read false 0 (record { before = before; moved = 0; way = None }) q
+read_by p q before stepped called alone = record { later = later_by p (Load purpose.Read) before q stepped; called = called; moved = refl; way = stepped; entered = alone }
+
+-- the desk of the first worker keeps its room
+pub room_kept : (closing : Option Closing) (pool : PoolView) (old : DeskView) (tenant : ℕ) (kind : Kind) (through : Bool) (amount : ℕ) (answer : Moved) (new : DeskView) → KeepsRoom closing old → CallsAt pool old tenant kind through amount answer new → KeepsRoom closing new
+room_kept closing pool old tenant kind through amount answer new keeps call =
+    let Keeps : DeskView → Type 0 = λ d. KeepsRoom closing d in
+    subst Keeps (sym call.desk) (λ worker.
+    let kept = keeps worker in
+    let same : length (set old.passes tenant call.after) ≡ length old.passes = length-set old.passes tenant call.after in
+    let few : call.pass.seen.start.shape.passes ≤ kept.1 = subst (λ (p : PassView). p.seen.start.shape.passes ≤ kept.1) (get_or_from_slice_get old.passes tenant call.pass call.pass call.at) (kept.4 tenant call.pass (slice_get_within old.passes tenant call.pass call.at)) in
+    let after : call.after.seen.start.shape.passes ≤ kept.1 = subst (λ (s : Start). s.shape.passes ≤ kept.1) (sym call.called.later.start) few in (
+      kept.0,
+      kept.1,
+      kept.2,
+      subst (λ n. HasPlace kept.1 n kept.0) (sym same) kept.3,
+      λ k d within.
+          elim (cases_eq k tenant) [
+            | inl here ↦
+                let inside : tenant < length old.passes = slice_get_within old.passes tenant call.pass call.at in
+                subst (λ (p : PassView). p.seen.start.shape.passes ≤ kept.1) (sym (ap (λ n. get_or (set old.passes tenant call.after) n d) here ∙ get_or-set_same old.passes tenant call.after d inside)) after
+            | inr other ↦ subst (λ (p : PassView). p.seen.start.shape.passes ≤ kept.1) (sym (get_or-set_other old.passes tenant k call.after d other)) (kept.4 k d (omega (arith, within, same)))
+          ],
+    ))

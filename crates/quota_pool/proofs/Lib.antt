@@ -1,0 +1,5 @@
+pub mod Calling
+pub mod Closes
+pub mod Opens
+pub mod Places
+pub mod RoomSteps

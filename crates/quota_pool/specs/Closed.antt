@@ -1,0 +1,39 @@
+-- What the books of a closed pool tell.
+--     passes_at tenant desks      the desks' passes at a tenant
+--     MayClose table passes, ClosesWith table passes book      what the closing of a table needs, and what it tells
+--     AreClosed pool desks books      the books of a pool
+use Rattle.std.specs.Prelude.{◌≡◌, ℕ, ⊤, All, List, [], ◌∷◌, length, flat_map, slice_get, Some}
+use Rattle.std.specs.Option.{option_to_list}
+use Rattle.fn_model.specs.Calls.{own}
+use Rattle.fn_core.specs.Calls.{CoreLog, calls_in, IsIdle}
+use Rattle.fn_table.specs.Seen.{TableView, PassView, IsOf, AreAll, IsClosed}
+use Rattle.quota_pool.specs.declared.tenants.Tenant.{Tenant}
+use Rattle.quota_pool.specs.Views.{PoolView, DeskView}
+
+-- the desks' passes at a tenant, in order of the desks
+abbrev pub passes_at : ℕ → List DeskView → List PassView
+passes_at tenant desks = flat_map (λ desk. option_to_list (slice_get desk.passes tenant)) desks
+
+-- A table was closed with these passes: the book's log is their logs put together, in which the own calls of each are as it had seen them
+pub record ClosesWith (table : TableView) (passes : List PassView) (book : CoreLog) : Type 0 where
+  pub begins : book.start ≡ table.start
+  pub closed : IsClosed passes book
+  pub calls : (k : ℕ) (p : PassView) → slice_get passes k ≡ Some p → own p.number (calls_in book) ≡ own p.number (calls_in p.seen)
+
+-- a table may be closed with these passes: they are all that it has, in order, and make no call
+pub record MayClose (table : TableView) (passes : List PassView) : Type 0 where
+  pub together : All (IsOf table) passes
+  pub all : AreAll table passes
+  pub idle : All (λ p. IsIdle p.seen p.number) passes
+
+-- each tenant's book is that of its table, closed with the passes in its room
+abbrev pub AreClosedFrom : List Tenant → List CoreLog → Type 0
+AreClosedFrom [] [] = ⊤
+AreClosedFrom (tenant ∷ tenants) (book ∷ books) = ClosesWith tenant.funnel tenant.room.items book × AreClosedFrom tenants books
+AreClosedFrom _ _ = ⊥
+
+-- The books are those of the pool's tables, in order, each closed with the desks' passes at its tenant
+pub record AreClosed (pool : PoolView) (desks : List DeskView) (books : List CoreLog) : Type 0 where
+  pub tenants : length books ≡ length pool.tables
+  pub each : (tenant : ℕ) (table : TableView) (book : CoreLog) → slice_get pool.tables tenant ≡ Some table → slice_get books tenant ≡ Some book
+      → ClosesWith table (passes_at tenant desks) book

@@ -1,0 +1,6 @@
+pub mod Views
+pub mod Calls
+pub mod Faults
+pub mod Opened
+pub mod Closed
+pub mod Rooms

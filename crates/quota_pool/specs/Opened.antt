@@ -1,0 +1,55 @@
+-- What a pool is that has just been opened.
+--     fresh_desk tables worker      the desk of a worker at these tables
+--     OpensWith workers opening cap plan table      a table was opened with these numbers
+--     IsOpened openings caps workers plans pool desks      a pool and its desks
+use Rattle.std.specs.Prelude.{◌≡◌, ◌<◌, ℕ, List, [], ◌∷◌, ◌++◌, length, map, slice_get, slice_index, slice_index_or, Some, All}
+use Rattle.running.specs.Running.{upto}
+use Rattle.fn_core.specs.Calls.{calls_in}
+use Rattle.fn_table.specs.Seen.{TableView, PassView, IsWhole, fresh}
+use Rattle.fn_funnel.specs.Shapes.{IsShapeFor}
+use Rattle.quota_pool.specs.Views.{PoolView, DeskView, Belongs}
+
+-- the desk of a worker at these tables: at each a pass that has made no step of its own
+abbrev pub fresh_desk : List TableView → ℕ → DeskView
+fresh_desk tables worker = record { worker = worker; passes = map (λ table. fresh table worker) tables }
+
+-- A table was opened with these numbers
+pub record OpensWith (workers opening cap : ℕ) (plan : List ℕ) (table : TableView) : Type 0 where
+  pub has_shape : IsShapeFor workers table.start.shape
+  pub has_opening : table.start.opening ≡ opening
+  pub has_cap : table.start.cap ≡ cap
+  pub has_plan : table.start.allowances ≡ plan
+
+-- the pass makes no call, nobody's call has entered the history that it has seen, and it has its whole allowance
+abbrev pub IsNew : PassView → Type 0
+IsNew p = IsWhole p × (calls_in p.seen ≡ [])
+
+-- A table was opened with these numbers, and its passes are new
+pub record IsOpen (workers opening cap : ℕ) (plan : List ℕ) (table : TableView) : Type 0 where
+  pub opens : OpensWith workers opening cap plan table
+  pub new : (worker : ℕ) → worker < workers → IsNew (fresh table worker)
+
+-- so many tables as there are plans, each of which was opened with its numbers
+pub record AreOpen (workers : ℕ) (openings caps : List ℕ) (plans : List (List ℕ)) (tables : List TableView) : Type 0 where
+  pub tenants : length tables ≡ length plans
+  pub each : (tenant : ℕ) (table : TableView) → slice_get tables tenant ≡ Some table → IsOpen workers (slice_index openings tenant) (slice_index caps tenant) (slice_index_or plans tenant []) table
+
+-- a desk with one pass more
+abbrev pub with_more : DeskView → PassView → DeskView
+with_more desk pass = record { worker = desk.worker; passes = desk.passes ++ pass ∷ [] }
+
+-- the desks, each with its pass more
+abbrev pub dealt : List DeskView → List PassView → List DeskView
+dealt [] passes = []
+dealt (desk ∷ desks) [] = desk ∷ desks
+dealt (desk ∷ desks) (pass ∷ passes) = with_more desk pass ∷ dealt desks passes
+
+-- A pool with a table for each tenant, opened with the tenant's numbers, and a desk for each worker, in order, with the worker's pass of each table
+pub record IsOpened (openings caps : List ℕ) (workers : ℕ) (plans : List (List ℕ)) (pool : PoolView) (desks : List DeskView) : Type 0 where
+  pub count : pool.workers ≡ workers
+  pub tenants : length pool.tables ≡ length openings
+  pub each : (tenant : ℕ) (table : TableView) → slice_get pool.tables tenant ≡ Some table
+      → OpensWith workers (slice_index openings tenant) (slice_index caps tenant) (slice_index_or plans tenant []) table
+  pub fresh : desks ≡ map (fresh_desk pool.tables) (upto workers)
+  pub together : All (Belongs pool) desks
+  pub new : All (λ desk. All IsNew desk.passes) desks

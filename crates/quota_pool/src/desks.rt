@@ -1,0 +1,81 @@
+//! The desks of a pool.
+ghost use Rattle.std.specs.Prelude.{◌≡◌, ◌<◌, ◌≤◌, length, true, false};
+ghost use Rattle.fn_model.specs.declared.Kind.TheVariants.{Add, Sub, Read};
+ghost use Rattle.quota_pool.specs.Views.{Belongs, MayMove, left_at};
+ghost use Rattle.quota_pool.specs.Calls.{CallsAt};
+
+use crate::closing::Closing;
+use crate::moved::Moved;
+use crate::pool::QuotaPool;
+use crate::seats::Seats;
+use std::marker::Model;
+use std::sync::Wait;
+
+/// One worker's passes, one for each tenant. Contracts see its worker and its passes.
+///
+/// The first worker's desk also keeps the room that closing needs: all threads share the pool, and only one at a time may hold what is made for passes.
+#[derive(Drop)]
+pub struct Desk {
+    pub(crate) seats: Seats,
+    pub(crate) closing: Option<Closing>,
+}
+
+impl Model for Desk {
+    ghost use Rattle.quota_pool.specs.Views.{DeskView};
+    ghost use Rattle.quota_pool.specs.Rooms.{KeepsRoom};
+
+    ghost Value = { DeskView };
+
+    ghost view = { λ desk. desk.seats };
+
+    ghost invariant = { λ desk. KeepsRoom desk.closing desk.seats };
+}
+
+impl Desk {
+    /// What the desk has left of its allowance at a tenant.
+    pub fn left(&self, tenant: u32) -> u64
+        requires { tenant < length self.now.passes }
+        ensures { result ≡ left_at self.now tenant }
+    {
+        self.seats.left(tenant)
+    }
+
+    /// Adds, up to the tenant's cap. It may wait for the callers of its batch.
+    pub fn add<R: Wait>(&mut self, rt: &R, pool: &QuotaPool, tenant: u32, amount: u64) -> Moved
+        requires together { Belongs pool.now self.old }
+        requires tenant { tenant < length self.old.passes }
+        requires amount { MayMove self.old tenant amount }
+        ensures { CallsAt pool.now self.old tenant Add true amount result self.new }
+    {
+        self.seats.add(rt, pool, tenant, amount)
+    }
+
+    /// Subtracts, down to zero. It may wait for the callers of its batch.
+    pub fn take<R: Wait>(&mut self, rt: &R, pool: &QuotaPool, tenant: u32, amount: u64) -> Moved
+        requires together { Belongs pool.now self.old }
+        requires tenant { tenant < length self.old.passes }
+        requires amount { MayMove self.old tenant amount }
+        ensures { CallsAt pool.now self.old tenant Sub true amount result self.new }
+    {
+        self.seats.take(rt, pool, tenant, amount)
+    }
+
+    /// Adds, up to the tenant's cap, past the funnel. It may wait where the cap is below the highest.
+    pub fn direct<R: Wait>(&mut self, rt: &R, pool: &QuotaPool, tenant: u32, amount: u64) -> Moved
+        requires together { Belongs pool.now self.old }
+        requires tenant { tenant < length self.old.passes }
+        requires amount { MayMove self.old tenant amount }
+        ensures { CallsAt pool.now self.old tenant Add false amount result self.new }
+    {
+        self.seats.direct(rt, pool, tenant, amount)
+    }
+
+    /// The tenant's integer, as a call of its own.
+    pub fn read(&mut self, pool: &QuotaPool, tenant: u32) -> Moved
+        requires together { Belongs pool.now self.old }
+        requires tenant { tenant < length self.old.passes }
+        ensures { CallsAt pool.now self.old tenant Read false 0 result self.new }
+    {
+        self.seats.read(pool, tenant)
+    }
+}
