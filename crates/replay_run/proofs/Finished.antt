@@ -1,0 +1,95 @@
+-- A segment's last steps, by what its workers have left.
+use Rattle.std.proofs.Common.{◌≡◌, ◌<◌, ◌++◌, [], take, ℕ, List, length, map, get_or, slice_get, Some, Vec, refl, sym, ap, ◌∙◌, subst, arith, All}
+use Rattle.std.proofs.lemmas.List.{length-map, with_items_is, get_or-map}
+use Rattle.std.proofs.lemmas.Option.{slice_get_within, get_or_from_slice_get}
+use Rattle.std.specs.declared.alloc.Global.{Global}
+use Rattle.std.specs.Vec.{with_items}
+use Rattle.running.specs.Running.{upto}
+use Rattle.fn_core.specs.Calls.{CoreLog}
+use Rattle.quota_pool.specs.Views.{PoolView, DeskView, Belongs}
+use Rattle.quota_pool.specs.Closed.{AreClosed}
+use Rattle.quota_pool.specs.declared.moved.Moved.{Moved}
+use Rattle.quota_pool.proofs.Closes.{found_at}
+use Rattle.trace_text.specs.declared.traces.Row.{Row}
+use Rattle.trace_text.specs.declared.traces.Tenant.{Tenant}
+use Rattle.replay_run.specs.declared.places.Place.{Place}
+use Rattle.replay_run.specs.Replay.{IsBook, IsAnswered}
+use Rattle.replay_run.specs.Ready.{IsSoundSegment, IsReady, Adds}
+use Rattle.replay_run.specs.Work.{MayWork, Worked, desks_in, AreDealt, gathered}
+use Rattle.replay_run.proofs.Counts.{length_gathered}
+use Rattle.replay_run.proofs.NoFault.{workers_there}
+use Rattle.replay_run.proofs.Whole.{count_places, may_work, still_dealt, still_together, still_all, is_book, is_answered}
+
+-- the caps of tenants
+abbrev pub caps_in : List Tenant → List ℕ
+caps_in tenants = map (λ (tenant : Tenant). tenant.cap) tenants
+
+module _ (workers : ℕ) (tenants : List Tenant) (caps openings : List ℕ) (rows : List Row) (pool : PoolView) (v : Vec Place Global) (before : List Place)
+    (same : caps ≡ caps_in tenants) (whole : IsSoundSegment workers (caps_in tenants) openings rows) (ready : IsReady workers caps openings rows pool v.items) (is : before ≡ v.items) where
+  sound : IsSoundSegment workers caps openings rows
+  sound = subst (λ (cs : List ℕ). IsSoundSegment workers cs openings rows) (sym same) whole
+
+  pub count_before : length before ≡ workers
+  count_before = ap length is ∙ count_places workers caps openings rows pool v.items sound ready
+
+  pub may_begin : All (MayWork pool) before
+  may_begin = subst (λ (ps : List Place). All (MayWork pool) ps) (sym is) (may_work workers caps openings rows pool v.items sound ready)
+
+  module _ (after : List Place) (size : length after ≡ length before) (worked : (worker : ℕ) (d : Place) → worker < length before → Worked pool (get_or before worker d) (get_or after worker d)) where
+    -- what the places hold in the end
+    abbrev done : List Place
+    done = (with_items v after).items
+
+    done_is : done ≡ after
+    done_is = with_items_is v after (size ∙ ap length is ∙ sym v.ok.0)
+
+    long : length done ≡ length v.items
+    long = ap length done_is ∙ size ∙ ap length is
+
+    so : (worker : ℕ) (d : Place) → worker < length v.items → Worked pool (get_or v.items worker d) (get_or done worker d)
+    so worker d within =
+        subst (λ (ps : List Place). Worked pool (get_or v.items worker d) (get_or ps worker d)) (sym done_is)
+        (subst (λ (ps : List Place). Worked pool (get_or ps worker d) (get_or after worker d)) is (worked worker d (subst (λ (ps : List Place). worker < length ps) (sym is) within)))
+
+    pub count_done : length done ≡ workers
+    count_done = long ∙ count_places workers caps openings rows pool v.items sound ready
+
+    pub rows_there : All (λ (row : Row). row.worker < length done) rows
+    rows_there = λ k d within. omega (arith, count_done, workers_there workers (length caps) rows sound.sound k d within)
+
+    pub dealt_done : AreDealt rows done
+    dealt_done = still_dealt workers caps openings rows pool v.items sound ready done long so
+
+    pub together_done : All (Belongs pool) (desks_in done)
+    together_done = still_together workers caps openings rows pool v.items sound ready done long so
+
+    pub all_done : map (λ (d : DeskView). d.worker) (desks_in done) ≡ upto pool.workers
+    all_done = still_all workers caps openings rows pool v.items sound ready done long so
+
+    module _ (books : List CoreLog) (closed : AreClosed pool (desks_in done) books) where
+      count_books : length books ≡ length tenants
+      count_books = closed.tenants ∙ ready.opened.tenants ∙ sound.one_each ∙ ap length same ∙ length-map tenants (λ (t : Tenant). t.cap)
+
+      each_book : (t : ℕ) (tenant : Tenant) (book : CoreLog) → slice_get tenants t ≡ Some tenant → slice_get books t ≡ Some book → IsBook workers tenant.cap (get_or openings t 0) t rows book
+      each_book t tenant book here there =
+          let table = found_at pool.tables t (omega (arith, slice_get_within books t book there, closed.tenants)) in
+          let cap : get_or caps t 0 ≡ tenant.cap =
+          ap (λ (cs : List ℕ). get_or cs t 0) same ∙ get_or-map (λ (x : Tenant). x.cap) tenants t tenant 0 (slice_get_within tenants t tenant here) ∙ ap (λ (x : Tenant). x.cap) (get_or_from_slice_get tenants t tenant tenant here) in
+          subst (λ (n : ℕ). IsBook workers n (get_or openings t 0) t rows book) cap (is_book workers caps openings rows pool v.items sound ready done long so books closed t table.0 book table.1 there)
+
+      each_answer : (k : ℕ) (row : Row) (answer : Moved) (book : CoreLog) → slice_get rows k ≡ Some row → slice_get (gathered rows done) k ≡ Some answer → slice_get books row.tenant ≡ Some book → IsAnswered (take k rows) row answer book
+      each_answer k row answer book here got there =
+          let table = found_at pool.tables row.tenant (omega (arith, slice_get_within books row.tenant book there, closed.tenants)) in
+          is_answered workers caps openings rows pool v.items sound ready done long so books closed row.tenant table.0 book table.1 there k row answer here got refl
+
+      pub adds : (old new : List Moved) → new ≡ old ++ gathered rows done → Adds workers tenants openings rows old new books
+      adds old new is_new = record {
+        answers = gathered rows done;
+        added = is_new;
+        segment = record {
+          one_each = length_gathered [] done rows;
+          all = count_books;
+          closed = each_book;
+          answered = each_answer;
+        };
+      }

@@ -1,0 +1,13 @@
+pub mod Runs
+pub mod Rows
+pub mod Counts
+pub mod Dealt
+pub mod Planned
+pub mod KeyedSums
+pub mod NoFault
+pub mod Numbered
+pub mod RanAt
+pub mod Outside
+pub mod Whole
+pub mod Finished
+pub mod Course

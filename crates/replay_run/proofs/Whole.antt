@@ -1,0 +1,360 @@
+-- A segment, from what stands before its first call to its books.
+use Rattle.std.proofs.Common.{◌≡◌, ◌+◌, ◌<◌, ◌≤◌, ◌==◌, ℕ, zero, suc, Bool, List, [], ◌∷◌, ◌++◌, length, take, drop, map, get_or, slice_get, Option, Some, None, true, false, cond, nat_lt, refl, sym, ap, ◌∙◌, subst, arith, inl, inr, append_assoc, if◌then◌else◌, take-append-drop}
+use Rattle.std.proofs.lemmas.Bool.Decides.{nat_tests}
+use Rattle.std.proofs.lemmas.List.{length-map, get_or-map, get_or_default, drop_more, same_lists}
+use Rattle.std.proofs.lemmas.List.Elements.{All-head, All-tail, All-same, All-filter, filter-append, filter_passes}
+use Rattle.std.proofs.lemmas.List.Sums.{sum_by-cons}
+use Rattle.std.proofs.lemmas.Option.{none-some, same_Some, slice_get_cases, slice_get_within, slice_get-map, slice_get-get_or, get_or_from_slice_get}
+use Rattle.std.specs.List.{All}
+use Rattle.std.specs.Option.{option_map, option_to_list}
+use mathlib.Core.List.{IsPrefix}
+use Rattle.running.specs.Running.{numbers_from, upto}
+use Rattle.running.proofs.Logs.{prefix_more}
+use Rattle.fn_model.specs.declared.Call.{Call}
+use Rattle.fn_model.specs.Calls.{own}
+use Rattle.fn_model.proofs.Calls.{reply_stays}
+use Rattle.fn_core.specs.declared.Event.{Event}
+use Rattle.fn_core.specs.declared.Start.{Start}
+use Rattle.fn_core.specs.State.{State, opened, history_in}
+use Rattle.fn_core.specs.Machine.{Legal, run}
+use Rattle.fn_core.specs.Laws.{HasReply}
+use Rattle.fn_core.specs.Calls.{CoreLog, calls_in, IsLegal}
+use Rattle.fn_core.proofs.Follows.{legal_parts, run_parts}
+use Rattle.fn_core.proofs.Grows.{histories_grow}
+use Rattle.std.proofs.lemmas.List.{length-append, get_or_append_left}
+use Rattle.fn_core.specs.declared.Move.TheVariants.{Glance}
+use Rattle.fn_table.specs.Seen.{TableView, PassView, fresh, event}
+use Rattle.fn_funnel.specs.Shapes.{IsShapeFor}
+use Rattle.fn_funnel.specs.declared.waiting.Way.{Way}
+use Rattle.fn_funnel.proofs.Calls.{entered_stays}
+use Rattle.fn_core.proofs.Entered.{entries_stay}
+use Rattle.quota_pool.specs.Calls.{EntersBy}
+use Rattle.fn_climb.proofs.Sofar.{prefix_on}
+use Rattle.quota_pool.specs.Views.{PoolView, DeskView, Belongs, left_at, left_in}
+use Rattle.quota_pool.specs.Opened.{fresh_desk, OpensWith, IsNew}
+use Rattle.quota_pool.specs.Closed.{passes_at, ClosesWith, AreClosed}
+use Rattle.quota_pool.specs.declared.moved.Moved.{Moved}
+use Rattle.quota_pool.proofs.Closes.{length_numbers, found_at}
+use Rattle.trace_text.specs.SoundTrace.{IsSoundRow, amounts}
+use Rattle.trace_text.specs.declared.traces.Row.{Row}
+use Rattle.replay_run.specs.declared.places.Job.{Job}
+use Rattle.replay_run.specs.declared.places.Place.{Place}
+use Rattle.replay_run.specs.Segments.{rows_of, call_of, call_after, calls_from}
+use Rattle.replay_run.specs.Replay.{IsBook, IsAnswered}
+use Rattle.replay_run.specs.Ready.{IsSoundSegment, IsReady}
+use Rattle.replay_run.specs.Work.{rows_in, of_worker, MayRun, MayWork, Ran, Worked, desks_in, jobs_of, AreDealt, job_at, gathered_from, gathered}
+use Rattle.replay_run.proofs.Counts.{no_place, answer_of}
+use Rattle.replay_run.proofs.NoFault.{none_from, workers_there, tenants_there}
+use Rattle.replay_run.proofs.Numbered.{rows_own}
+use Rattle.replay_run.proofs.Outside.{none_outside}
+use Rattle.replay_run.proofs.RanAt.{Reached, RanAt, came}
+use Rattle.replay_run.proofs.Runs.{asks}
+
+-- a number among so many
+number_at : (from n k : ℕ) → k < n → (d : ℕ) → get_or (numbers_from from n) k d ≡ from + k
+number_at from zero k below d = absurd (omega arith)
+number_at from (suc n) zero below d = omega arith
+number_at from (suc n) (suc k) below d = let e = number_at (suc from) n k (omega arith) d in omega (arith, e)
+
+-- rows of other tenants ask for nothing
+none_asked : (tenants tenant : ℕ) (rows : List Row) → All (λ (row : Row). row.tenant < tenants) rows → tenants ≤ tenant → amounts tenant rows ≡ 0
+none_asked tenants tenant [] all above = refl
+none_asked tenants tenant (row ∷ rows) all above =
+    let first : row.tenant < tenants = All-head (λ (r : Row). r.tenant < tenants) row rows all in
+    let other : (row.tenant == tenant) ≡ false = grind (arith, nat_tests, first, above) in
+    let nothing : asks tenant row ≡ 0 = ap (λ (b : Bool). if b then row.amount else 0) other in
+    omega (arith, sum_by-cons (asks tenant) row rows, nothing, none_asked tenants tenant rows (All-tail (λ (r : Row). r.tenant < tenants) row rows all) above)
+
+-- what holds of a worker's rows holds of its jobs
+jobs_all : (P : Row → Type 0) (jobs : List Job) → All P (rows_in jobs) → All (λ (job : Job). P job.row) jobs
+jobs_all P jobs all = λ k d within. subst P (get_or-map (λ (job : Job). job.row) jobs k d d.row within) (all k d.row (omega (arith, within, length-map jobs (λ (job : Job). job.row))))
+
+-- a row among its worker's, with those before it
+module _ (rows : List Row) (k : ℕ) (row : Row) (at : slice_get rows k ≡ Some row) where
+  abbrev mine : Row → Bool
+  mine r = r.worker == row.worker
+
+  split : rows ≡ take k rows ++ row ∷ drop (k + 1) rows
+  split =
+      let within : k < length rows = slice_get_within rows k row at in
+      sym (take-append-drop k rows) ∙ ap (λ (rs : List Row). take k rows ++ rs) (drop_more rows k row within ∙ ap (λ (r : Row). r ∷ drop (k + 1) rows) (get_or_from_slice_get rows k row row at))
+
+  pub own_split : of_worker row.worker rows ≡ of_worker row.worker (take k rows) ++ row ∷ of_worker row.worker (drop (k + 1) rows)
+  own_split =
+      ap (of_worker row.worker) split ∙ filter-append mine (take k rows) (row ∷ drop (k + 1) rows)
+      ∙ ap (λ (b : Bool). of_worker row.worker (take k rows) ++ cond b (row ∷ of_worker row.worker (drop (k + 1) rows)) (of_worker row.worker (drop (k + 1) rows))) (same_test row.worker)
+    where
+      same_test : (n : ℕ) → (n == n) ≡ true
+      same_test n = grind (arith, nat_tests)
+
+found_behind : {A : Type 0} (xs : List A) (x : A) (ys : List A) → slice_get (xs ++ x ∷ ys) (length xs) ≡ Some x
+found_behind [] x ys = refl
+found_behind (z ∷ xs) x ys = found_behind xs x ys
+
+taken_before : {A : Type 0} (xs : List A) (ys : List A) → take (length xs) (xs ++ ys) ≡ xs
+taken_before [] ys = refl
+taken_before (z ∷ xs) ys = ap (λ zs. z ∷ zs) (taken_before xs ys)
+
+-- the answer that was gathered for a row
+gathered_at : (earlier : List Row) (places : List Place) (rows : List Row) (k : ℕ) (row : Row) → slice_get rows k ≡ Some row → slice_get (gathered_from earlier places rows) k ≡ Some (answer_of (earlier ++ take k rows) places row)
+gathered_at earlier places [] k row none = absurd (none-some row none)
+gathered_at earlier places (first ∷ rows) zero row is =
+    ap (λ (r : Row). Some (answer_of earlier places r)) (same_Some first row is) ∙ ap (λ (e : List Row). Some (answer_of e places row)) (sym (nothing earlier))
+  where
+    nothing : (xs : List Row) → xs ++ [] ≡ xs
+    nothing [] = refl
+    nothing (x ∷ xs) = ap (λ ys. x ∷ ys) (nothing xs)
+gathered_at earlier places (first ∷ rows) (suc k) row is =
+    gathered_at (earlier ++ first ∷ []) places rows k row is ∙ ap (λ (e : List Row). Some (answer_of e places row)) (append_assoc earlier (first ∷ []) (take k rows))
+
+-- a desk that made calls is still one of the pool, of the same worker
+pub still_one : (pool : PoolView) (old : DeskView) (jobs : List Job) (new : DeskView) → Ran pool old jobs new → Belongs pool old → Belongs pool new × (new.worker ≡ old.worker)
+still_one pool old [] new is belongs = (subst (Belongs pool) (sym is) belongs, ap (λ (d : DeskView). d.worker) is)
+still_one pool old (job ∷ jobs) new (next, made, rest) belongs = let later = still_one pool next jobs new rest made.together in (later.0, later.1 ∙ ap (λ (d : DeskView). d.worker) made.desk)
+
+-- the passes of desks at a tenant, by desk
+passes_found : (tenant : ℕ) (ds : List DeskView) → ((k : ℕ) (d : DeskView) → slice_get ds k ≡ Some d → (q : PassView) × (slice_get d.passes tenant ≡ Some q))
+    → (k : ℕ) (d : DeskView) (q : PassView) → slice_get ds k ≡ Some d → slice_get d.passes tenant ≡ Some q → slice_get (passes_at tenant ds) k ≡ Some q
+passes_found tenant [] all k d q none at = absurd (none-some d none)
+passes_found tenant (first ∷ ds) all zero d q is at =
+    let same : slice_get first.passes tenant ≡ Some q = ap (λ (x : DeskView). slice_get x.passes tenant) (same_Some first d is) ∙ at in
+    ap (λ (o : Option PassView). slice_get (option_to_list o ++ passes_at tenant ds) 0) same
+passes_found tenant (first ∷ ds) all (suc k) d q is at =
+    let has = all 0 first refl in
+    ap (λ (o : Option PassView). slice_get (option_to_list o ++ passes_at tenant ds) (suc k)) has.1 ∙ passes_found tenant ds (λ j e at_j. all (suc j) e at_j) k d q is at
+
+-- a reply stays what its call meets while the history grows
+pub reply_later : (start : Start) (first log : List Event) (call : Call) (n : ℕ) → (let old : CoreLog = record { start = start; log = first } in let new : CoreLog = record { start = start; log = log } in
+    IsLegal old → IsLegal new → IsPrefix first log → HasReply start (calls_in old) call n → HasReply start (calls_in new) call n)
+reply_later start first log call n legal longer (more, whole) has =
+    let old : CoreLog = record { start = start; log = first } in
+    let past : List Call = calls_in old in
+    let parts = legal_parts start first more (opened start) (subst (λ (l : List Event). Legal start l (opened start)) (sym whole) longer.1) in
+    let further = histories_grow start first legal.0 legal.1 more parts.1 in
+    let there : history_in start (run start log (opened start)) ≡ past ++ further.0 =
+    ap (λ (l : List Event). history_in start (run start l (opened start))) (sym whole) ∙ ap (λ (s : State). history_in start s) (run_parts start first more (opened start)) ∙ further.1 in
+    let stays = reply_stays start.cap start.opening call.pass call.number past further.0 has.0 has.1 in
+    subst (λ (calls : List Call). HasReply start calls call n) (sym there)
+    (has.0, stays.0, (let size = length-append past further.0 in let within = has.2 in omega arith), get_or_append_left past further.0 call has.0 has.2 ∙ has.3, stays.1 ∙ has.4)
+
+-- and a call stays entered as its way has it
+enters_later : (way : Option Way) (old new : CoreLog) → IsLegal new → new.start ≡ old.start → IsPrefix old.log new.log → (call : Call) → EntersBy way old call → EntersBy way new call
+enters_later (Some way) old new legal same begins call = entered_stays way old new legal same begins call
+enters_later None old new legal same begins call = (entries_stay old new legal same begins call).0
+
+module _ (workers : ℕ) (caps openings : List ℕ) (rows : List Row) (pool : PoolView) (places : List Place) (sound : IsSoundSegment workers caps openings rows) (ready : IsReady workers caps openings rows pool places) where
+  pub count_places : length places ≡ workers
+  count_places =
+      sym (length-map places (λ (p : Place). p.desk)) ∙ ap length ready.opened.fresh ∙ length-map (upto workers) (fresh_desk pool.tables) ∙ length_numbers 0 workers
+
+  tables_count : length pool.tables ≡ length caps
+  tables_count = ready.opened.tenants ∙ sound.one_each
+
+  desk_at : (worker : ℕ) → worker < workers → (get_or places worker no_place).desk ≡ fresh_desk pool.tables worker
+  desk_at worker below =
+      let d : DeskView = fresh_desk pool.tables 0 in
+      let within : worker < length places = omega (arith, below, count_places) in
+      sym (get_or-map (λ (p : Place). p.desk) places worker no_place d within) ∙ ap (λ (ds : List DeskView). get_or ds worker d) ready.opened.fresh
+      ∙ get_or-map (fresh_desk pool.tables) (upto workers) worker 0 d (omega (arith, below, length_numbers 0 workers)) ∙ ap (fresh_desk pool.tables) (let e = number_at 0 workers worker below 0 in omega (arith, e))
+
+  -- a worker's pass of a table has made no step of its own
+  new_pass : (worker : ℕ) → worker < workers → (tenant : ℕ) (table : TableView) → slice_get pool.tables tenant ≡ Some table → (slice_get (fresh_desk pool.tables worker).passes tenant ≡ Some (fresh table worker)) × IsNew (fresh table worker)
+  new_pass worker below tenant table at =
+      let found : slice_get (fresh_desk pool.tables worker).passes tenant ≡ Some (fresh table worker) =
+      slice_get-map (λ (t : TableView). fresh t worker) pool.tables tenant ∙ ap (λ (o : Option TableView). option_map (λ (t : TableView). fresh t worker) o) at in
+      let within : worker < length places = omega (arith, below, count_places) in
+      let desks : worker < length (desks_in places) = omega (arith, within, length-map places (λ (p : Place). p.desk)) in
+      let d : DeskView = fresh_desk pool.tables 0 in
+      let all : All IsNew (get_or (desks_in places) worker d).passes = ready.opened.new worker d desks in
+      let is : get_or (desks_in places) worker d ≡ fresh_desk pool.tables worker = get_or-map (λ (p : Place). p.desk) places worker no_place d within ∙ desk_at worker below in
+      let new : All IsNew (fresh_desk pool.tables worker).passes = subst (λ (x : DeskView). All IsNew x.passes) is all in
+      let p : PassView = fresh table worker in
+      let inside = slice_get_within (fresh_desk pool.tables worker).passes tenant p found in
+      (found, subst IsNew (get_or_from_slice_get (fresh_desk pool.tables worker).passes tenant p p found) (new tenant p inside))
+
+  opens_with : (tenant : ℕ) (table : TableView) → slice_get pool.tables tenant ≡ Some table → OpensWith workers (get_or openings tenant 0) (get_or caps tenant 0) (get_or ready.plans tenant []) table
+  opens_with tenant table at = ready.opened.each tenant table at
+
+  -- a desk has enough left for its worker's rows
+  enough : (worker : ℕ) → worker < workers → (tenant : ℕ) → amounts tenant (of_worker worker rows) ≤ left_at (fresh_desk pool.tables worker) tenant
+  enough worker below tenant = elim ((slice_get_cases pool.tables tenant).1) [
+    | inl (table, within, at, got) ↦
+        let there : tenant < length caps = omega (arith, within, tables_count) in
+        let new = new_pass worker below tenant table at in
+        let left : left_at (fresh_desk pool.tables worker) tenant ≡ get_or table.start.allowances worker 0 = ap left_in new.0 ∙ new.1.0.1 in
+        let plan : get_or table.start.allowances worker 0 ≡ amounts tenant (of_worker worker rows) = ap (λ (ns : List ℕ). get_or ns worker 0) (opens_with tenant table at).has_plan ∙ ready.planned.sums tenant there worker below in
+        omega (arith, left, plan)
+    | inr past ↦
+        let above : length caps ≤ tenant = omega (arith, past.0, tables_count) in
+        let mine : All (λ (row : Row). row.tenant < length caps) (of_worker worker rows) = All-filter (λ (row : Row). row.worker == worker) (λ (row : Row). row.tenant < length caps) rows (tenants_there workers (length caps) rows sound.sound) in
+        omega (arith, none_asked (length caps) tenant (of_worker worker rows) mine above)
+  ]
+
+  pub may_work : All (MayWork pool) places
+  may_work = λ worker d within.
+      let below : worker < workers = omega (arith, within, count_places) in
+      let is : get_or places worker no_place ≡ get_or places worker d = get_or_default places worker no_place d within in
+      let desk = desk_at worker below in
+      let mine : rows_in (jobs_of places worker) ≡ of_worker worker rows = ready.dealt worker within in
+      let desks : worker < length (desks_in places) = omega (arith, within, length-map places (λ (p : Place). p.desk)) in
+      let first : DeskView = fresh_desk pool.tables 0 in
+      let together : Belongs pool (get_or places worker no_place).desk = subst (Belongs pool) (get_or-map (λ (p : Place). p.desk) places worker no_place first within) (ready.opened.together worker first desks) in
+      let SoundHere : ℕ → ℕ → Type 0 = λ ws ts. All (IsSoundRow ws ts) (of_worker worker rows) in
+      let here : SoundHere workers (length caps) = All-filter (λ (row : Row). row.worker == worker) (IsSoundRow workers (length caps)) rows sound.sound in
+      let there : SoundHere pool.workers (length pool.tables) = subst (λ (n : ℕ). SoundHere pool.workers n) (sym tables_count) (subst (λ (n : ℕ). SoundHere n (length caps)) (sym ready.opened.count) here) in
+      let may : MayRun pool (get_or places worker no_place).desk (of_worker worker rows) = record {
+        together = together;
+        sound = there;
+        left = λ tenant. subst (λ (x : DeskView). amounts tenant (of_worker worker rows) ≤ left_at x tenant) (sym desk) (enough worker below tenant);
+      } in
+      subst (MayWork pool) is (subst (MayRun pool (get_or places worker no_place).desk) (sym mine) may)
+
+  -- after all workers have made their calls
+  module _ (done : List Place) (size : length done ≡ length places) (worked : (worker : ℕ) (d : Place) → worker < length places → Worked pool (get_or places worker d) (get_or done worker d)) where
+    pub still_dealt : AreDealt rows done
+    still_dealt worker within =
+        let inside : worker < length places = omega (arith, within, size) in
+        (worked worker no_place inside).rows ∙ ready.dealt worker inside
+
+    belongs_before : (worker : ℕ) → worker < length places → Belongs pool (get_or places worker no_place).desk
+    belongs_before worker within =
+        let first : DeskView = fresh_desk pool.tables 0 in
+        subst (Belongs pool) (get_or-map (λ (p : Place). p.desk) places worker no_place first within) (ready.opened.together worker first (omega (arith, within, length-map places (λ (p : Place). p.desk))))
+
+    one_of : (worker : ℕ) → worker < length places → Belongs pool (get_or done worker no_place).desk × ((get_or done worker no_place).desk.worker ≡ (get_or places worker no_place).desk.worker)
+    one_of worker within =
+        let was = worked worker no_place within in
+        still_one pool (get_or places worker no_place).desk (get_or done worker no_place).jobs (get_or done worker no_place).desk was.ran (belongs_before worker within)
+
+    pub still_together : All (Belongs pool) (desks_in done)
+    still_together = λ worker d within.
+        let inside : worker < length done = omega (arith, within, length-map done (λ (p : Place). p.desk)) in
+        subst (Belongs pool) (sym (get_or-map (λ (p : Place). p.desk) done worker no_place d inside)) (one_of worker (omega (arith, inside, size))).0
+
+    pub still_all : map (λ (d : DeskView). d.worker) (desks_in done) ≡ upto pool.workers
+    still_all =
+        let long : length (map (λ (d : DeskView). d.worker) (desks_in done)) ≡ length places = length-map (desks_in done) (λ (d : DeskView). d.worker) ∙ length-map done (λ (p : Place). p.desk) ∙ size in
+        let count : length (upto workers) ≡ workers = length_numbers 0 workers in
+        let same : map (λ (d : DeskView). d.worker) (desks_in done) ≡ upto workers =
+        same_lists (map (λ (d : DeskView). d.worker) (desks_in done)) (upto workers) (omega (arith, long, count, count_places)) (λ k d within.
+        let inside : k < length places = omega (arith, within, long) in
+        let below : k < workers = omega (arith, inside, count_places) in
+        let first : DeskView = fresh_desk pool.tables 0 in
+        get_or-map (λ (x : DeskView). x.worker) (desks_in done) k first d (omega (arith, inside, size, length-map done (λ (p : Place). p.desk)))
+        ∙ ap (λ (x : DeskView). x.worker) (get_or-map (λ (p : Place). p.desk) done k no_place first (omega (arith, inside, size)))
+        ∙ (one_of k inside).1 ∙ ap (λ (x : DeskView). x.worker) (desk_at k below) ∙ (let e = number_at 0 workers k below d in omega (arith, e))) in
+        same ∙ ap upto (sym ready.opened.count)
+
+    -- a worker's pass of a table, as it is in the end
+    pub came_to : (worker : ℕ) → worker < workers → (tenant : ℕ) (table : TableView) → slice_get pool.tables tenant ≡ Some table
+        → (q : PassView) × (slice_get (get_or done worker no_place).desk.passes tenant ≡ Some q) × RanAt worker tenant (fresh table worker) q [] (jobs_of done worker)
+    came_to worker below tenant table at =
+        let within : worker < length places = omega (arith, below, count_places) in
+        let was = worked worker no_place within in
+        let new = new_pass worker below tenant table at in
+        let found : slice_get (get_or places worker no_place).desk.passes tenant ≡ Some (fresh table worker) = ap (λ (x : DeskView). slice_get x.passes tenant) (desk_at worker below) ∙ new.0 in
+        let mine : rows_in (jobs_of done worker) ≡ of_worker worker rows = still_dealt worker (omega (arith, within, size)) in
+        let tested : All (λ (row : Row). row.worker ≡ worker) (of_worker worker rows) = λ k d inside. (let test : ((get_or (of_worker worker rows) k d).worker == worker) ≡ true = filter_passes (λ (row : Row). row.worker == worker) rows k d inside in grind (arith, nat_tests, test)) in
+        let all : All (λ (job : Job). job.row.worker ≡ worker) (jobs_of done worker) = jobs_all (λ (row : Row). row.worker ≡ worker) (jobs_of done worker) (All-same (λ (row : Row). row.worker ≡ worker) (rows_in (jobs_of done worker)) (of_worker worker rows) mine tested) in
+        came pool worker tenant (get_or places worker no_place).desk (jobs_of done worker) (get_or done worker no_place).desk (fresh table worker) [] was.ran all found refl (ap (own worker) new.1.1)
+
+    module _ (books : List CoreLog) (closed : AreClosed pool (desks_in done) books) (tenant : ℕ) (table : TableView) (book : CoreLog) (at : slice_get pool.tables tenant ≡ Some table) (there : slice_get books tenant ≡ Some book) where
+      abbrev closes : ClosesWith table (passes_at tenant (desks_in done)) book
+      closes = closed.each tenant table book at there
+
+      -- the pass stands among those with which the table is closed
+      pass_there : (worker : ℕ) → worker < workers → (q : PassView) → slice_get (get_or done worker no_place).desk.passes tenant ≡ Some q → slice_get (passes_at tenant (desks_in done)) worker ≡ Some q
+      pass_there worker below q found =
+          let within : worker < length done = omega (arith, below, count_places, size) in
+          let desks : slice_get (desks_in done) worker ≡ Some (get_or done worker no_place).desk =
+          slice_get-map (λ (p : Place). p.desk) done worker ∙ ap (λ (o : Option Place). option_map (λ (p : Place). p.desk) o) (slice_get-get_or done worker no_place within) in
+          passes_found tenant (desks_in done) (λ k d is.
+          let inside : k < length (desks_in done) = slice_get_within (desks_in done) k d is in
+          let belongs : Belongs pool d = subst (Belongs pool) (get_or_from_slice_get (desks_in done) k d d is) (still_together k d inside) in
+          found_at d.passes tenant (omega (arith, belongs.tenants, slice_get_within pool.tables tenant table at)))
+          worker (get_or done worker no_place).desk q desks found
+
+      opened_so : OpensWith workers (get_or openings tenant 0) (get_or caps tenant 0) (get_or ready.plans tenant []) table
+      opened_so = opens_with tenant table at
+
+      -- a worker's own calls in the book are its rows
+      own_rows : (worker : ℕ) → worker < workers → own worker (calls_in book) ≡ calls_from 0 (rows_of worker tenant rows)
+      own_rows worker below =
+          let last = came_to worker below tenant table at in
+          let q : PassView = last.0 in
+          let number : q.number ≡ worker = last.2.number in
+          let same : own worker (calls_in book) ≡ own worker (calls_in q.seen) = subst (λ (w : ℕ). own w (calls_in book) ≡ own w (calls_in q.seen)) number (closes.calls worker q (pass_there worker below q last.1)) in
+          let mine : rows_in (jobs_of done worker) ≡ of_worker worker rows = still_dealt worker (omega (arith, below, count_places, size)) in
+          same ∙ last.2.calls ∙ ap (λ (rs : List Row). calls_from 0 (rows_of worker tenant rs)) mine ∙ ap (calls_from 0) (rows_own worker tenant rows)
+
+      no_rows : (worker : ℕ) → workers ≤ worker → own worker (calls_in book) ≡ calls_from 0 (rows_of worker tenant rows)
+      no_rows worker above =
+          let passes : book.start.shape.passes ≡ workers = ap (λ (s : Start). s.shape.passes) closes.begins ∙ opened_so.has_shape.0 in
+          let none : own worker (calls_in book) ≡ [] = none_outside book.start closes.closed.legal.0 worker (omega (arith, passes, above)) book.log closes.closed.legal.1 in
+          let empty : of_worker worker rows ≡ [] = none_from workers rows (workers_there workers (length caps) rows sound.sound) worker above in
+          none ∙ sym (ap (calls_from 0) (sym (rows_own worker tenant rows) ∙ ap (rows_of worker tenant) empty))
+
+      all_rows : (worker : ℕ) → own worker (calls_in book) ≡ calls_from 0 (rows_of worker tenant rows)
+      all_rows worker = by (nat_lt worker workers) refl
+        where
+          by : (b : Bool) → nat_lt worker workers ≡ b → own worker (calls_in book) ≡ calls_from 0 (rows_of worker tenant rows)
+          by true is = own_rows worker (grind (arith, nat_tests, is))
+          by false is = no_rows worker (grind (arith, nat_tests, is))
+
+      pub is_book : IsBook workers (get_or caps tenant 0) (get_or openings tenant 0) tenant rows book
+      is_book = record {
+        legal = closes.closed.legal;
+        has_shape = subst (λ (s : Start). IsShapeFor workers s.shape) (sym closes.begins) opened_so.has_shape;
+        has_cap = ap (λ (s : Start). s.cap) closes.begins ∙ opened_so.has_cap;
+        has_opening = ap (λ (s : Start). s.opening) closes.begins ∙ opened_so.has_opening;
+        calls = all_rows;
+      }
+
+      -- the answer of a row
+      pub is_answered : (k : ℕ) (row : Row) (answer : Moved) → slice_get rows k ≡ Some row → slice_get (gathered rows done) k ≡ Some answer → row.tenant ≡ tenant → IsAnswered (take k rows) row answer book
+      is_answered k row answer here got on =
+          let worker = row.worker in
+          let inside : k < length rows = slice_get_within rows k row here in
+          let row_is : get_or rows k row ≡ row = get_or_from_slice_get rows k row row here in
+          let below : worker < workers = subst (λ (r : Row). r.worker < workers) row_is (workers_there workers (length caps) rows sound.sound k row inside) in
+          let last = came_to worker below tenant table at in
+          let q : PassView = last.0 in
+          let jobs : List Job = jobs_of done worker in
+          let before : List Row = of_worker worker (take k rows) in
+          let dealt : rows_in jobs ≡ before ++ row ∷ of_worker worker (drop (k + 1) rows) = still_dealt worker (omega (arith, below, count_places, size)) ∙ own_split rows k row here in
+          let n = length before in
+          let found : slice_get (rows_in jobs) n ≡ Some row = ap (λ (rs : List Row). slice_get rs n) dealt ∙ found_behind before row (of_worker worker (drop (k + 1) rows)) in
+          let within : n < length jobs = omega (arith, slice_get_within (rows_in jobs) n row found, length-map jobs (λ (j : Job). j.row)) in
+          let none : Job = job_at [] n in
+          let job : Job = job_at jobs n in
+          let job_there : slice_get jobs n ≡ Some job = slice_get-get_or jobs n none within in
+          let job_row : job.row ≡ row = same_Some job.row row (sym (slice_get-map (λ (j : Job). j.row) jobs n ∙ ap (λ (o : Option Job). option_map (λ (j : Job). j.row) o) job_there) ∙ found) in
+          let answer_is : job.answer ≡ answer = same_Some job.answer answer (sym (gathered_at [] done rows k row here) ∙ got) in
+          let reached : Reached q (take n (rows_in jobs)) job.row job.answer = last.2.each n job job_there (ap (λ (r : Row). r.tenant) job_row ∙ on) in
+          let taken : take n (rows_in jobs) ≡ before = ap (take n) dealt ∙ taken_before before (row ∷ of_worker worker (drop (k + 1) rows)) in
+          let reached_so : Reached q before row answer =
+          subst (λ (rs : List Row). Reached q rs row answer) taken (subst (λ (r : Row). Reached q (take n (rows_in jobs)) r answer) job_row (subst (λ (a : Moved). Reached q (take n (rows_in jobs)) job.row a) answer_is reached)) in
+          in_book worker below q last.1 last.2.start k row answer reached_so
+        where
+          in_book : (worker : ℕ) → worker < workers → (q : PassView) → slice_get (get_or done worker no_place).desk.passes tenant ≡ Some q → q.seen.start ≡ table.start → (k : ℕ) (row : Row) (answer : Moved)
+              → Reached q (of_worker row.worker (take k rows)) row answer → IsAnswered (take k rows) row answer book
+          in_book worker below q found start k row answer reached =
+              let has = closes.closed.each worker q (pass_there worker below q found) in
+              let whole : IsPrefix q.seen.log book.log = subst (λ (log : List Event). IsPrefix q.seen.log log) (sym closes.closed.last) (prefix_more q.seen.log closes.closed.before (event 0 Glance ∷ []) has.begins) in
+              let seen = prefix_on reached.after.seen.log q.seen.log book.log reached.seen whole in
+              let same : reached.after.seen.start ≡ book.start = reached.start ∙ start ∙ sym closes.begins in
+              let own_rows_before : List Row = of_worker row.worker (take k rows) in
+              let call_is : call_after own_rows_before row ≡ call_after (take k rows) row = ap (λ (n : ℕ). call_of n row) (ap length (rows_own row.worker row.tenant (take k rows))) in
+              let ReplyAt : Start → Type 0 = λ s. let old : CoreLog = record { start = s; log = reached.after.seen.log } in IsLegal old × HasReply s (calls_in old) (call_after own_rows_before row) answer.before in
+              let there : ReplyAt book.start = subst ReplyAt same (reached.legal, reached.met) in
+              record {
+                pass = reached.pass;
+                after = reached.after;
+                worker = reached.worker;
+                start = same;
+                seen = seen;
+                called = reached.called;
+                met = subst (λ (call : Call). HasReply book.start (calls_in book) call answer.before) call_is
+                    (reply_later book.start reached.after.seen.log book.log (call_after own_rows_before row) answer.before there.0 closes.closed.legal seen there.1);
+                entered = subst (λ (call : Call). EntersBy answer.way book call) call_is (enters_later answer.way reached.after.seen book closes.closed.legal (sym same) seen (call_after own_rows_before row) reached.entered);
+              }
