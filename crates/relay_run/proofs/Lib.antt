@@ -1,0 +1,6 @@
+pub mod Strides
+pub mod Moving
+pub mod Together
+pub mod Written
+pub mod Handing
+pub mod Splitting

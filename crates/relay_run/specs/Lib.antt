@@ -1,0 +1,4 @@
+pub mod Lines
+pub mod Relay
+pub mod Work
+pub mod Filling
