@@ -1,0 +1,12 @@
+//! The texts of a trace's answers: a report of all rows and tenants, and a summary of one tenant.
+#![tactic(auto)]
+
+mod numbers;
+mod report;
+mod sums;
+#[cfg(test)]
+mod tests;
+
+pub use quota_pool::Moved;
+pub use report::{report_text, summary_text};
+pub use trace_text::{NoMemory, Trace};

@@ -1,0 +1,16 @@
+//! What the tool is asked to do.
+
+/// What the tool is asked to do.
+#[derive(Clone, Copy, Debug, PartialEq, Eq)]
+pub enum Command {
+    /// plays a script on the pure core
+    Play,
+    /// runs a script on the table
+    Trial,
+    /// replays a trace
+    Replay { workers: u32 },
+    /// replays a trace that its numbers name
+    Drill { seed: u64, rows: u64, workers: u32 },
+    /// passes lines through a queue
+    Relay { workers: u32, capacity: u32 },
+}

@@ -1,0 +1,12 @@
+//! The words after the program's name, and the command that they ask for.
+#![tactic(auto)]
+
+mod commands;
+mod reading;
+#[cfg(test)]
+mod tests;
+mod verbs;
+mod words;
+
+pub use commands::Command;
+pub use reading::read_command;
