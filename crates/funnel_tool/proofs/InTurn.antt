@@ -13,7 +13,7 @@ use Rattle.trace_text.specs.declared.scripts.Order.{Order}
 use Rattle.trace_text.specs.declared.scripts.Order.TheVariants as order
 use Rattle.trace_text.specs.declared.scripts.ScriptLine.{ScriptLine}
 use Rattle.funnel_tool.specs.declared.lines.LineAnswer.{LineAnswer}
-use Rattle.funnel_tool.specs.declared.lines.LineAnswer.TheVariants.{Waits, NoRow, Going, Reply, NotYet, Met}
+use Rattle.funnel_tool.specs.declared.lines.LineAnswer.TheVariants.{Waits, NoRow, Going, Reply, NotYet, Lost, Met}
 use Rattle.funnel_tool.specs.Replies.{IsMet, StandsBefore, answered_by, asked, made_by}
 
 -- the call has a place in the history
@@ -65,6 +65,7 @@ answered-placed start past mine Waits met = All-nil (IsPlaced past)
 answered-placed start past mine (NoRow blocked) met = All-nil (IsPlaced past)
 answered-placed start past mine Going met = All-nil (IsPlaced past)
 answered-placed start past mine (NotYet why) met = All-nil (IsPlaced past)
+answered-placed start past mine (Lost loaded found) met = All-nil (IsPlaced past)
 answered-placed start past mine Met met = All-nil (IsPlaced past)
 
 -- what holds of the next call of a pass holds of each that a line makes
@@ -88,4 +89,5 @@ made-all P calls line (NoRow blocked) next = All-nil P
 made-all P calls line Going next = asked-all P line.pass (length (own line.pass calls)) next line.order
 made-all P calls line (Reply n) next = asked-all P line.pass (length (own line.pass calls)) next line.order
 made-all P calls line (NotYet why) next = asked-all P line.pass (length (own line.pass calls)) next line.order
+made-all P calls line (Lost loaded found) next = All-nil P
 made-all P calls line Met next = asked-all P line.pass (length (own line.pass calls)) next line.order

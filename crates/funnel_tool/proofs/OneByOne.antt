@@ -15,7 +15,7 @@ use Rattle.trace_text.specs.declared.scripts.ScriptLine.{ScriptLine}
 use Rattle.funnel_tool.specs.declared.lines.LineAnswer.{LineAnswer}
 use Rattle.funnel_tool.specs.declared.play.PlayFault.{PlayFault}
 use Rattle.funnel_tool.specs.Lines.{answer_line, answers_text, value_line}
-use Rattle.funnel_tool.specs.Play.{after_line, answered, opened_core, order_answer, order_fault, play_lines, rests, run_text, unfinished}
+use Rattle.funnel_tool.specs.Play.{after_line, answered, least_busy, opened_core, order_answer, order_fault, play_lines, rests, run_text, unfinished}
 use Rattle.funnel_tool.specs.Doing.{IsReady, Leaves, onto}
 
 -- a line that can be done
@@ -52,13 +52,13 @@ onto-nothing (Ok run) = refl
 onto-nothing (Err found) = refl
 
 -- what a line asks of its own pass, and of others
-share-own : (line : ScriptLine) (rest : List ScriptLine) (pass : ℕ) → line.pass ≡ pass → allowance (line ∷ rest) pass ≡ amount line.order + allowance rest pass
+pub share-own : (line : ScriptLine) (rest : List ScriptLine) (pass : ℕ) → line.pass ≡ pass → allowance (line ∷ rest) pass ≡ amount line.order + allowance rest pass
 share-own line rest pass own =
     let e : (line.pass == pass) ≡ true = eq-eqb line.pass pass own in
     let part : (if line.pass == pass then amount line.order else 0) ≡ amount line.order = rw e refl in
     sum_by-cons (λ (l : ScriptLine). if l.pass == pass then amount l.order else 0) line rest ∙ ap (λ n. n + allowance rest pass) part
 
-share-other : (line : ScriptLine) (rest : List ScriptLine) (pass : ℕ) → line.pass ≢ pass → allowance (line ∷ rest) pass ≡ 0 + allowance rest pass
+pub share-other : (line : ScriptLine) (rest : List ScriptLine) (pass : ℕ) → line.pass ≢ pass → allowance (line ∷ rest) pass ≡ 0 + allowance rest pass
 share-other line rest pass other =
     let e : (line.pass == pass) ≡ false = ne_eqb line.pass pass other in
     let part : (if line.pass == pass then amount line.order else 0) ≡ 0 = rw e refl in
@@ -105,7 +105,7 @@ ready-next old new line rest h leaves =
     }
 
 -- the lines that are left, with the next of them first
-lines-left : (lines : List ScriptLine) (i : ℕ) (line d : ScriptLine) → i < length lines → line ≡ get_or lines i d → drop i lines ≡ line ∷ drop (i + 1) lines
+pub lines-left : (lines : List ScriptLine) (i : ℕ) (line d : ScriptLine) → i < length lines → line ≡ get_or lines i d → drop i lines ≡ line ∷ drop (i + 1) lines
 lines-left lines i line d within is = rw (is, add-one) (drop-cons lines i d within)
 
 pub so-far-next : (first now next : CoreLog) (start before after : List ℕ) (lines : List ScriptLine) (i : ℕ) (line d : ScriptLine) → i < length lines → line ≡ get_or lines i d
@@ -139,12 +139,18 @@ find-some test a (suc n) i above below here before =
       | inr other ↦ rw (before a (omega arith) (omega arith)) (find-some test (a + 1) n i (omega arith) (omega arith) here (λ k a b. before k (omega arith) b))
     ]
 
--- where all passes rest nobody is unfinished
+-- where all passes rest none is in mid-call, and else the first that doesn't
+pub none-busy : (rest : ℕ → Bool) (n : ℕ) → ((k : ℕ) → k < n → rest k ≡ true) → least_busy rest n ≡ None
+none-busy rest n all = find-none _ 0 n (λ k above below. rw (all k (omega arith)) refl)
+
+pub least-is : (rest : ℕ → Bool) (n pass : ℕ) → pass < n → rest pass ≡ false → ((k : ℕ) → k < pass → rest k ≡ true) → least_busy rest n ≡ Some pass
+least-is rest n pass there busy before = find-some _ 0 n pass (omega arith) (omega arith) (rw busy refl) (λ k above below. rw (before k below) refl)
+
 pub all-rest : (core : CoreLog) → ((k : ℕ) → k < core.start.shape.passes → rests (state_in core) k ≡ true) → unfinished core ≡ None
-all-rest core all = find-none _ 0 core.start.shape.passes (λ k above below. rw (all k (omega arith)) refl)
+all-rest core all = none-busy (rests (state_in core)) core.start.shape.passes all
 
 pub first-busy : (core : CoreLog) (pass : ℕ) → pass < core.start.shape.passes → rests (state_in core) pass ≡ false → ((k : ℕ) → k < pass → rests (state_in core) k ≡ true) → unfinished core ≡ Some pass
-first-busy core pass there busy before = find-some _ 0 core.start.shape.passes pass (omega arith) (omega arith) (rw busy refl) (λ k above below. rw (before k below) refl)
+first-busy core pass there busy before = least-is (rests (state_in core)) core.start.shape.passes pass there busy before
 
 -- at its opening a script's lines can be done
 pub ready-first : (core : CoreLog) (script : Script) → core ≡ opened_core script → IsReady core script.lines

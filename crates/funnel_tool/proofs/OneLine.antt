@@ -40,12 +40,13 @@ idle-some true at pass e = absurd (cc e)
 idle-some false at pass e = refl
 
 -- a line that asks for no call makes none
-none-made : (calls : List Call) (line : ScriptLine) (told : LineAnswer) → asked line.pass (length (own line.pass calls)) line.order ≡ [] → calls ++ made_by calls line told ≡ calls
+pub none-made : (calls : List Call) (line : ScriptLine) (told : LineAnswer) → asked line.pass (length (own line.pass calls)) line.order ≡ [] → calls ++ made_by calls line told ≡ calls
 none-made calls line answer.Waits is = ap (λ (x : List Call). calls ++ x) is ∙ append-nil calls
 none-made calls line (answer.NoRow blocked) is = append-nil calls
 none-made calls line answer.Going is = ap (λ (x : List Call). calls ++ x) is ∙ append-nil calls
 none-made calls line (answer.Reply n) is = ap (λ (x : List Call). calls ++ x) is ∙ append-nil calls
 none-made calls line (answer.NotYet why) is = ap (λ (x : List Call). calls ++ x) is ∙ append-nil calls
+none-made calls line (answer.Lost loaded found) is = append-nil calls
 none-made calls line answer.Met is = ap (λ (x : List Call). calls ++ x) is ∙ append-nil calls
 
 -- a beginning makes the call that its line asks for, unless it is refused
@@ -117,12 +118,13 @@ asked-other pass number o q other = by o
     by order.Poll = refl
     by (order.Meet m) = refl
 
-made-other : (calls : List Call) (line : ScriptLine) (told : LineAnswer) (q : ℕ) → line.pass ≢ q → own q (made_by calls line told) ≡ []
+pub made-other : (calls : List Call) (line : ScriptLine) (told : LineAnswer) (q : ℕ) → line.pass ≢ q → own q (made_by calls line told) ≡ []
 made-other calls line answer.Waits q other = asked-other line.pass (length (own line.pass calls)) line.order q other
 made-other calls line (answer.NoRow blocked) q other = refl
 made-other calls line answer.Going q other = asked-other line.pass (length (own line.pass calls)) line.order q other
 made-other calls line (answer.Reply n) q other = asked-other line.pass (length (own line.pass calls)) line.order q other
 made-other calls line (answer.NotYet why) q other = asked-other line.pass (length (own line.pass calls)) line.order q other
+made-other calls line (answer.Lost loaded found) q other = refl
 made-other calls line answer.Met q other = asked-other line.pass (length (own line.pass calls)) line.order q other
 
 -- .. so the calls of the other passes are as they were

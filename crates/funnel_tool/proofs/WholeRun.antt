@@ -26,7 +26,7 @@ use Rattle.trace_text.specs.declared.scripts.Script.{Script}
 use Rattle.trace_text.specs.declared.scripts.ScriptLine.{ScriptLine}
 use Rattle.funnel_tool.specs.Lines.{answers_text}
 use Rattle.funnel_tool.specs.declared.lines.LineAnswer.{LineAnswer}
-use Rattle.funnel_tool.specs.declared.lines.LineAnswer.TheVariants.{Waits, NoRow, Going, Reply, NotYet, Met}
+use Rattle.funnel_tool.specs.declared.lines.LineAnswer.TheVariants.{Waits, NoRow, Going, Reply, NotYet, Lost, Met}
 use Rattle.funnel_tool.specs.declared.play.PlayFault.{PlayFault}
 use Rattle.funnel_tool.specs.Play.{after_line, answered, finish, opened_core, order_answer, order_fault, play_lines, play_text, rests, run_text, unfinished}
 use Rattle.funnel_tool.specs.Doing.{IsReady}
@@ -58,12 +58,13 @@ has-later core more call n legal longer has =
     subst (λ (x : List Call). HasReply core.start x call n) (sym further.1)
     (has.0, stays.0, (let size = length-append past further.0 in let within = has.2 in omega arith), get_or_append_left past further.0 call has.0 has.2 ∙ has.3, stays.1 ∙ has.4)
 
-met-later : (core : CoreLog) (more : List Event) (mine : List Call) (told : LineAnswer) → IsLegal core → IsLegal (grown core more) → IsMet core.start (calls_in core) mine told → IsMet core.start (calls_in (grown core more)) mine told
+pub met-later : (core : CoreLog) (more : List Event) (mine : List Call) (told : LineAnswer) → IsLegal core → IsLegal (grown core more) → IsMet core.start (calls_in core) mine told → IsMet core.start (calls_in (grown core more)) mine told
 met-later core more mine (Reply n) legal longer met = (met.0, met.1, met.2, has-later core more met.1 n legal longer met.3)
 met-later core more mine Waits legal longer met = tt
 met-later core more mine (NoRow blocked) legal longer met = tt
 met-later core more mine Going legal longer met = tt
 met-later core more mine (NotYet why) legal longer met = tt
+met-later core more mine (Lost loaded found) legal longer met = tt
 met-later core more mine Met legal longer met = tt
 
 -- lines that can be played
@@ -95,7 +96,7 @@ finish-ok core None answers last e = let same = same-run [] answers (state_in co
 finish-ok core (Some pass) answers last e = absurd (cc e)
 
 -- where nobody is unfinished all passes rest
-not-false : (b : Bool) → (if b then false else true) ≡ false → b ≡ true
+pub not-false : (b : Bool) → (if b then false else true) ≡ false → b ≡ true
 not-false true e = refl
 not-false false e = absurd (cc e)
 

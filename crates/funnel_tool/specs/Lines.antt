@@ -4,15 +4,20 @@ use Rattle.fn_core.specs.declared.answer.Why.{Why}
 use Rattle.fn_core.specs.declared.answer.Why.TheVariants.{Behind, Lost}
 use Rattle.funnel_tool.specs.declared.lines.LineAnswer.{LineAnswer}
 use Rattle.funnel_tool.specs.declared.lines.LineAnswer.TheVariants.{Waits, NoRow, Going, Reply, NotYet, Met}
+use Rattle.funnel_tool.specs.declared.lines.LineAnswer.TheVariants as answer
 
 -- two numbers
 abbrev pub pair_text : ℕ → ℕ → List ℕ
 pair_text a b = decimal a ++ codes " " ++ decimal b
 
+-- the word that was loaded, and the one that the exchange found
+abbrev pub lost_text : ℕ → ℕ → List ℕ
+lost_text loaded found = codes "lost " ++ pair_text loaded found
+
 -- why a call has to wait
 abbrev pub why_text : Why → List ℕ
 why_text (Behind done at) = codes "behind " ++ pair_text done at
-why_text (Lost loaded found) = codes "lost " ++ pair_text loaded found
+why_text (Lost loaded found) = lost_text loaded found
 
 -- an answer
 abbrev pub answer_text : LineAnswer → List ℕ
@@ -21,6 +26,7 @@ answer_text (NoRow blocked) = codes "norow " ++ pair_text blocked.level blocked.
 answer_text Going = codes "going"
 answer_text (Reply n) = codes "reply " ++ decimal n
 answer_text (NotYet why) = codes "notyet " ++ why_text why
+answer_text (answer.Lost loaded found) = lost_text loaded found
 answer_text Met = codes "met"
 
 -- an answer's line

@@ -1,90 +1,214 @@
--- How a run of the tool ends: what it read and wrote, its status, and its line on standard error.
---     Streams      what a run sees of its three streams
---     PlaysTo bytes text, TellsRun bytes text      the bytes spell a script that gives this text; and the text tells its run
---     Ends words io ending      what each ending means
+-- How a run of the tool ends: what it read and wrote, its status, what it hands back, and its line on standard error.
+--     Input, Output      what a run sees of its source, and of the sink for its text
+--     of_scripts asked      the command that is asked for, where it is one on scripts
+--     Reads command input bytes      what a command reads
+--     Tells command bytes text answers books queue      the text of a command, and what it hands back
+--     Refuses command bytes why callers      why a command can't have its text
+--     Ends asked input output outcome ending      what each ending means
 --     status_of ending, error_line ending      its status, and its line on standard error
-use Rattle.std.specs.Prelude.{◌≡◌, ◌≢◌, ℕ, ◌<◌, ◌≤◌, ◌++◌, List, [], length, Option, Ok, Err, codes, decimal, String}
-use Rattle.std.specs.declared.alloc.Global.{Global}
+use Rattle.std.specs.Prelude.{◌≡◌, ◌⊎◌, ℕ, ◌+◌, ◌<◌, ◌≤◌, ◌++◌, List, [], ◌∷◌, length, map, Option, Some, None, Result, Ok, Err, codes, decimal, sum_by}
 use Rattle.std.specs.Io.KnownBytes.{Consumes, Appends, IsAtEnd}
 use Rattle.edge_io.specs.Causes.{Rose}
 use Rattle.edge_io.specs.Whole.{AppendsPart}
+use Rattle.fn_core.specs.Calls.{CoreLog}
 use Rattle.fn_layout.specs.declared.shape.ShapeFault.{ShapeFault}
 use Rattle.fn_layout.specs.declared.shape.ShapeFault.TheVariants as shape
+use Rattle.quota_pool.specs.declared.moved.Moved.{Moved}
+use Rattle.trace_text.specs.Drill.{drill, drill_rows, total_taken}
 use Rattle.trace_text.specs.Script.{script_of, content}
+use Rattle.trace_text.specs.Trace.{Content, added, trace_of}
 use Rattle.trace_text.specs.declared.scripts.Script.{Script}
 use Rattle.trace_text.specs.declared.scripts.ScriptFault.{ScriptFault}
 use Rattle.trace_text.specs.declared.scripts.ScriptFault.TheVariants as script
-use Rattle.funnel_tool.specs.Words.{IsPlay}
+use Rattle.trace_text.specs.declared.traces.Row.{Row}
+use Rattle.trace_text.specs.declared.traces.TraceFault.{TraceFault}
+use Rattle.trace_text.specs.declared.traces.TraceFault.TheVariants as trace
+use Rattle.replay_run.specs.Replay.{IsReplay, value_in}
+use Rattle.tq_queue.specs.Seen.{BookView}
+use Rattle.relay_run.specs.Lines.{lines_of}
+use Rattle.relay_run.specs.Relay.{IsRelay, order_of, text_from}
+use Rattle.relay_run.specs.declared.lines.TheConstants.{MOST_LINES}
+use Rattle.replay_report.specs.Report.{report_text, summary_line, summary_text}
+use Rattle.tool_words.specs.declared.commands.Command.{Command}
+use Rattle.tool_words.specs.declared.commands.Command.TheVariants.{Play, Trial, Replay, Drill, Relay}
 use Rattle.funnel_tool.specs.Play.{play_text}
 use Rattle.funnel_tool.specs.Replies.{IsRunText}
+use Rattle.funnel_tool.specs.Trial.{IsHalted, TellsTrial}
 use Rattle.funnel_tool.specs.declared.ending.Ending.{Ending}
 use Rattle.funnel_tool.specs.declared.ending.Ending.TheVariants.{Done, Words, Refused, ReadFailed, WriteFailed, WriteStuck, NoMemory}
 use Rattle.funnel_tool.specs.declared.ending.Refusal.{Refusal}
-use Rattle.funnel_tool.specs.declared.ending.Refusal.TheVariants.{TooLong, ByScript, ByPlay}
+use Rattle.funnel_tool.specs.declared.ending.Refusal.TheVariants.{TooLong, ByScript, ByPlay, ByTrace, TooManyLines}
 use Rattle.funnel_tool.specs.declared.ending.TheConstants.{INPUT_LIMIT}
 use Rattle.funnel_tool.specs.declared.play.PlayFault.{PlayFault}
 use Rattle.funnel_tool.specs.declared.play.PlayFault.TheVariants as play
+use Rattle.funnel_tool.specs.declared.run.Outcome.{Outcome}
+use Rattle.funnel_tool.specs.declared.trial.Caller.{Caller}
 
--- what a run sees of the source, and of the sink for its output, before and after
-pub record Streams : Type 0 where
+-- what a run sees of its source, before and after
+pub record Input : Type 0 where
   pub left : Option (List ℕ)
   pub left_then : Option (List ℕ)
-  pub read_faults : ℕ
-  pub read_faults_then : ℕ
+  pub faults : ℕ
+  pub faults_then : ℕ
+
+-- .. and of the sink for its text
+pub record Output : Type 0 where
   pub held : Option (List ℕ)
   pub held_then : Option (List ℕ)
-  pub write_faults : ℕ
-  pub write_faults_then : ℕ
-  pub empty_writes : ℕ
-  pub empty_writes_then : ℕ
+  pub faults : ℕ
+  pub faults_then : ℕ
+  pub empty : ℕ
+  pub empty_then : ℕ
+
+abbrev pub reading : Option (List ℕ) → Option (List ℕ) → ℕ → ℕ → Input
+reading left left_then faults faults_then = record { left = left; left_then = left_then; faults = faults; faults_then = faults_then }
+
+abbrev pub writing : Option (List ℕ) → Option (List ℕ) → ℕ → ℕ → ℕ → ℕ → Output
+writing held held_then faults faults_then empty empty_then =
+    record { held = held; held_then = held_then; faults = faults; faults_then = faults_then; empty = empty; empty_then = empty_then }
+
+-- the command that is asked for, where it is one on scripts
+abbrev pub of_scripts : Option Command → Option Command
+of_scripts (Some Play) = Some Play
+of_scripts (Some Trial) = Some Trial
+of_scripts _ = None
+
+-- nothing was read
+abbrev pub ReadsNothing : Input → Type 0
+ReadsNothing input = (input.left_then ≡ input.left) × (input.faults_then ≡ input.faults)
 
 -- the source was read to its end, and gave these bytes
-abbrev pub Reads : Streams → List ℕ → Type 0
-Reads io bytes = Consumes io.left io.left_then bytes × IsAtEnd io.left_then × (length bytes ≤ INPUT_LIMIT)
+abbrev pub ReadsAll : Input → List ℕ → Type 0
+ReadsAll input bytes = Consumes input.left input.left_then bytes × IsAtEnd input.left_then × (length bytes ≤ INPUT_LIMIT)
+
+-- whether a command has input: a drill has none
+abbrev pub HasInput : Command → Type 0
+HasInput (Drill seed rows workers) = ⊥
+HasInput _ = Unit {0}
+
+-- what a command reads
+abbrev pub Reads : Command → Input → List ℕ → Type 0
+Reads (Drill seed rows workers) input bytes = ReadsNothing input
+Reads _ input bytes = ReadsAll input bytes
 
 -- nothing was written
-abbrev pub WritesNothing : Streams → Type 0
-WritesNothing io = io.held_then ≡ io.held
+abbrev pub WritesNothing : Output → Type 0
+WritesNothing output = output.held_then ≡ output.held
 
--- the bytes spell a script that gives this text
-abbrev pub PlaysTo : List ℕ → List ℕ → Type 0
-PlaysTo bytes text = (s : Script) × (script_of bytes ≡ Ok (content s)) × (play_text s ≡ Ok text)
+-- a text was written, or a front of it that isn't all
+abbrev pub Writes : Output → List ℕ → Ending → Type 0
+Writes output text Done = Appends output.held output.held_then text
+Writes output text WriteFailed = AppendsPart output.held output.held_then text × Rose output.faults output.faults_then
+Writes output text WriteStuck = AppendsPart output.held output.held_then text × Rose output.empty output.empty_then
+Writes output text _ = ⊥
 
--- the bytes spell a script, and the text tells its run, whose replies and value are those of one history of its calls
-abbrev pub TellsRun : List ℕ → List ℕ → Type 0
-TellsRun bytes text = (s : Script) × (script_of bytes ≡ Ok (content s)) × IsRunText s text
+-- answers and books of a trace's replay, and the report of these answers and of the books' values
+abbrev pub IsReport : ℕ → Content → List ℕ → List Moved → List CoreLog → Type 0
+IsReport workers trace text answers books = IsReplay workers trace answers books × (text ≡ report_text trace answers (map value_in books))
 
--- a front of the text was written, and not all of it
-abbrev pub WritesFront : Streams → List ℕ → Type 0
-WritesFront io text = AppendsPart io.held io.held_then text
+-- .. and their summary
+abbrev pub IsSummary : ℕ → Content → List ℕ → List Moved → List CoreLog → Type 0
+IsSummary workers trace text answers books = IsReplay workers trace answers books × (text ≡ summary_text trace workers answers (map value_in books))
 
--- the bytes are refused: they are more than the limit, they spell no script, or they spell one that can't be played
-abbrev pub Refuses : List ℕ → Refusal → Type 0
-Refuses bytes TooLong = INPUT_LIMIT < length bytes
-Refuses bytes (ByScript fault) = script_of bytes ≡ Err fault
-Refuses bytes (ByPlay fault) = (s : Script) × (script_of bytes ≡ Ok (content s)) × (play_text s ≡ Err fault)
+-- what rows can add together
+abbrev pub total_added : List Row → ℕ
+total_added rows = sum_by (λ row. added row.op row.amount) rows
 
--- a run that refuses its input has read it, but for input that is too long to its end
-abbrev pub IsRefused : Streams → Refusal → Type 0
-IsRefused io TooLong = (bytes : List ℕ) × Consumes io.left io.left_then bytes × Refuses bytes TooLong
-IsRefused io (ByScript fault) = (bytes : List ℕ) × Reads io bytes × Refuses bytes (ByScript fault)
-IsRefused io (ByPlay fault) = (bytes : List ℕ) × Reads io bytes × Refuses bytes (ByPlay fault)
+-- the line of a drill: each row moves its whole amount, and what is taken was there from the start
+abbrev pub drill_line : ℕ → ℕ → ℕ → List ℕ
+drill_line seed rows workers =
+    let all = drill_rows seed rows workers in summary_line rows workers (total_taken all) (total_added all) (total_taken all) (total_added all)
 
--- input that was read can't be played: it is refused, or memory ran out
-abbrev pub CantPlay : List ℕ → Ending → Type 0
-CantPlay bytes (Refused why) = Refuses bytes why × (why ≢ TooLong)
-CantPlay bytes NoMemory = Unit {0}
-CantPlay bytes _ = ⊥
+-- the book of the queue through which lines were relayed, and their text, which has them by rising ticket
+abbrev pub HasRelayed : ℕ → ℕ → List (List ℕ) → List ℕ → List Moved → List CoreLog → Option (BookView ℕ) → Type 0
+HasRelayed workers capacity lines text answers books queue =
+    (book : BookView ℕ) × IsRelay workers capacity (length lines) book × (text ≡ text_from 0 lines (order_of (length lines) book)) × (answers ≡ []) × (books ≡ []) × (queue ≡ Some book)
+
+-- the text of a command, and what it hands back: the answers and books of a replay, the book of a trial, or the book of a relay's queue
+abbrev pub Tells : Command → List ℕ → List ℕ → List Moved → List CoreLog → Option (BookView ℕ) → Type 0
+Tells Play bytes text answers books queue = (s : Script) × (script_of bytes ≡ Ok (content s)) × IsRunText s text × (answers ≡ []) × (books ≡ []) × (queue ≡ None)
+Tells Trial bytes text answers books queue = (s : Script) × (book : CoreLog) × (script_of bytes ≡ Ok (content s)) × TellsTrial s text book × (answers ≡ []) × (books ≡ book ∷ []) × (queue ≡ None)
+Tells (Replay workers) bytes text answers books queue =
+    (t : Content) × (trace_of workers bytes ≡ Ok t) × IsReport workers t text answers books × (queue ≡ None)
+Tells (Drill seed rows workers) bytes text answers books queue = IsSummary workers (drill seed rows workers) text answers books × (text ≡ drill_line seed rows workers) × (queue ≡ None)
+Tells (Relay workers capacity) bytes text answers books queue = (length (lines_of bytes) ≤ MOST_LINES) × HasRelayed workers capacity (lines_of bytes) text answers books queue
+
+-- why bytes are no script, or one that can't be done
+abbrev pub RefusesScript : List ℕ → Refusal → (Script → PlayFault → Type 0) → List Caller → Type 0
+RefusesScript bytes (ByScript fault) Stops callers = (script_of bytes ≡ Err fault) × (callers ≡ [])
+RefusesScript bytes (ByPlay fault) Stops callers = (s : Script) × (script_of bytes ≡ Ok (content s)) × Stops s fault
+RefusesScript bytes _ Stops callers = ⊥
+
+-- why bytes are no trace
+abbrev pub RefusesTrace : ℕ → List ℕ → Refusal → List Caller → Type 0
+RefusesTrace workers bytes (ByTrace fault) callers = (trace_of workers bytes ≡ Err fault) × (callers ≡ [])
+RefusesTrace workers bytes _ callers = ⊥
+
+-- why lines aren't relayed: there is one more than may be, which is told
+abbrev pub RefusesLines : List ℕ → Refusal → List Caller → Type 0
+RefusesLines bytes (TooManyLines at) callers = (MOST_LINES < length (lines_of bytes)) × (at ≡ MOST_LINES + 1) × (callers ≡ [])
+RefusesLines bytes _ callers = ⊥
+
+-- why a command can't have its text, and the callers that it hands back: those of the table on which a line of a script can't be done
+abbrev pub Refuses : Command → List ℕ → Refusal → List Caller → Type 0
+Refuses Play bytes why callers = RefusesScript bytes why (λ s fault. (play_text s ≡ Err fault) × (callers ≡ [])) callers
+Refuses Trial bytes why callers = RefusesScript bytes why (λ s fault. IsHalted s fault callers) callers
+Refuses (Replay workers) bytes why callers = RefusesTrace workers bytes why callers
+Refuses (Drill seed rows workers) bytes why callers = ⊥
+Refuses (Relay workers capacity) bytes why callers = RefusesLines bytes why callers
+
+-- a command that refuses its input has read it, but for input that is too long to its end
+abbrev pub IsRefused : Command → Input → Refusal → List Caller → Type 0
+IsRefused command input TooLong callers = HasInput command × (bytes : List ℕ) × Consumes input.left input.left_then bytes × (INPUT_LIMIT < length bytes) × (callers ≡ [])
+IsRefused command input why callers = (bytes : List ℕ) × Reads command input bytes × Refuses command bytes why callers
+
+-- how a run ends that has no text
+abbrev pub Stops : Option Command → Input → Ending → List Caller → Type 0
+Stops asked input Words callers = (asked ≡ None) × ReadsNothing input × (callers ≡ [])
+Stops asked input (Refused why) callers = (command : Command) × (asked ≡ Some command) × IsRefused command input why callers
+Stops asked input ReadFailed callers = (command : Command) × (asked ≡ Some command) × HasInput command × Rose input.faults input.faults_then × (callers ≡ [])
+Stops asked input NoMemory callers = callers ≡ []
+Stops asked input _ callers = ⊥
+
+-- a run had its text, and wrote it, or a front of it
+abbrev pub HasText : Option Command → Input → Output → Outcome → Ending → Type 0
+HasText asked input output outcome ending =
+    (command : Command) × (bytes text : List ℕ) × (asked ≡ Some command) × Reads command input bytes
+    × Tells command bytes text outcome.answers.items outcome.books.items outcome.queue × (outcome.halted.items ≡ []) × Writes output text ending
+
+-- a run had no text, wrote nothing, and hands back no answers and books
+abbrev pub HasNoText : Option Command → Input → Output → Outcome → Ending → Type 0
+HasNoText asked input output outcome ending =
+    Stops asked input ending outcome.halted.items × WritesNothing output × (outcome.answers.items ≡ []) × (outcome.books.items ≡ []) × (outcome.queue ≡ None)
 
 -- what each ending means
-abbrev pub Ends : List (String Global) → Streams → Ending → Type 0
-Ends words io Done = IsPlay words × (bytes text : List ℕ) × Reads io bytes × TellsRun bytes text × Appends io.held io.held_then text
-Ends words io Words = (IsPlay words → ⊥) × (io.left_then ≡ io.left) × WritesNothing io
-Ends words io (Refused why) = IsPlay words × IsRefused io why × WritesNothing io
-Ends words io ReadFailed = IsPlay words × Rose io.read_faults io.read_faults_then × WritesNothing io
-Ends words io WriteFailed = IsPlay words × (bytes text : List ℕ) × Reads io bytes × TellsRun bytes text × WritesFront io text × Rose io.write_faults io.write_faults_then
-Ends words io WriteStuck = IsPlay words × (bytes text : List ℕ) × Reads io bytes × TellsRun bytes text × WritesFront io text × Rose io.empty_writes io.empty_writes_then
-Ends words io NoMemory = WritesNothing io
+abbrev pub Ends : Option Command → Input → Output → Outcome → Ending → Type 0
+Ends asked input output outcome Done = HasText asked input output outcome Done
+Ends asked input output outcome WriteFailed = HasText asked input output outcome WriteFailed
+Ends asked input output outcome WriteStuck = HasText asked input output outcome WriteStuck
+Ends asked input output outcome ending = HasNoText asked input output outcome ending
+
+-- bytes in which a command finds no fault: a script that plays to an end, a script, a trace, or lines
+abbrev pub IsAccepted : Command → List ℕ → Type 0
+IsAccepted Play bytes = (s : Script) × (text : List ℕ) × (script_of bytes ≡ Ok (content s)) × (play_text s ≡ Ok text)
+IsAccepted Trial bytes = (s : Script) × (script_of bytes ≡ Ok (content s))
+IsAccepted (Replay workers) bytes = (t : Content) × (trace_of workers bytes ≡ Ok t)
+IsAccepted (Drill seed rows workers) bytes = Unit {0}
+IsAccepted (Relay workers capacity) bytes = length (lines_of bytes) ≤ MOST_LINES
+
+-- a command finds no fault in what a source has left
+abbrev pub Accepts : Command → Option (List ℕ) → Type 0
+Accepts (Drill seed rows workers) left = Unit {0}
+Accepts command left = (bytes : List ℕ) × (left ≡ Some bytes) × (length bytes ≤ INPUT_LIMIT) × IsAccepted command bytes
+
+-- no count rose
+abbrev pub IsCalm : Input → Output → Type 0
+IsCalm input output = (Rose input.faults input.faults_then → ⊥) × (Rose output.faults output.faults_then → ⊥) × (Rose output.empty output.empty_then → ⊥)
+
+-- a run whose words and input are accepted, in which no count rose and no line of a script on the table couldn't be done, is done, but for want of memory
+abbrev pub IsComplete : Option Command → Input → Output → Outcome → Type 0
+IsComplete asked input output outcome =
+    (command : Command) → asked ≡ Some command → Accepts command input.left → IsCalm input output → outcome.halted.items ≡ [] → (outcome.status ≡ 0) ⊎ (outcome.status ≡ 6)
 
 -- the status of an ending
 abbrev pub status_of : Ending → ℕ
@@ -115,6 +239,21 @@ script_text (script.TooMany at) = codes "too many at " ++ decimal at
 script_text (script.Total at) = codes "total at " ++ decimal at
 script_text script.NoMemory = codes "no memory"
 
+-- a fault of a trace
+abbrev pub trace_text : TraceFault → List ℕ
+trace_text (trace.Header at) = codes "header at " ++ decimal at
+trace_text (trace.Fields at) = codes "fields at " ++ decimal at
+trace_text (trace.Worker at) = codes "worker at " ++ decimal at
+trace_text (trace.Op at) = codes "op at " ++ decimal at
+trace_text (trace.Tenant at) = codes "tenant at " ++ decimal at
+trace_text (trace.Amount at) = codes "amount at " ++ decimal at
+trace_text (trace.Again at) = codes "again at " ++ decimal at
+trace_text (trace.Unknown at) = codes "unknown at " ++ decimal at
+trace_text (trace.TooMany at) = codes "too many at " ++ decimal at
+trace_text (trace.Total at) = codes "total at " ++ decimal at
+trace_text trace.NoMemory = codes "no memory"
+trace_text (trace.Cap at) = codes "cap at " ++ decimal at
+
 -- why a script can't be played
 abbrev pub play_fault_text : PlayFault → List ℕ
 play_fault_text (play.Busy at pass) = codes "busy at " ++ decimal at ++ codes " pass " ++ decimal pass
@@ -126,6 +265,8 @@ play_fault_text play.NoMemory = codes "no memory"
 abbrev pub refusal_text : Refusal → List ℕ
 refusal_text TooLong = codes "too long"
 refusal_text (ByScript fault) = script_text fault
+refusal_text (ByTrace fault) = trace_text fault
+refusal_text (TooManyLines at) = codes "too many at " ++ decimal at
 refusal_text (ByPlay fault) = play_fault_text fault
 
 -- the line of an ending on standard error

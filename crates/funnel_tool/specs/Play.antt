@@ -1,9 +1,10 @@
 -- What playing a script gives: each line is done on the core as the lines before have left it.
 --     line_moves start s line, line_answer start s line      the steps of a line's pass, and what the line is answered
 --     line_fault s line      why the line can't be done
+--     fault_by rest at pass order      .. by which passes rest
 --     play_lines core lines      the answers of the lines and the core after them, or the first fault
 --     play_text script      the text that a script gives, or its fault
-use Rattle.std.specs.Prelude.{ℕ, zero, suc, ◌*◌, Bool, true, false, List, [], ◌∷◌, Option, Some, None, Result, Ok, Err, if◌then◌else◌}
+use Rattle.std.specs.Prelude.{ℕ, Bool, true, false, List, [], ◌∷◌, Option, Some, None, Result, Ok, Err, if◌then◌else◌}
 use Rattle.std.specs.List.{range_with_len, find}
 use Rattle.fn_model.specs.declared.Kind.TheVariants.{Add, Sub, Read}
 use Rattle.fn_core.specs.declared.Start.{Start}
@@ -17,7 +18,7 @@ use Rattle.fn_core.specs.declared.answer.CoreStep.{CoreStep}
 use Rattle.fn_core.specs.declared.answer.CoreStep.TheVariants.{Ready}
 use Rattle.fn_core.specs.declared.answer.CoreStep.TheVariants as step_as
 use Rattle.fn_core.specs.State.{State}
-use Rattle.fn_core.specs.Machine.{no_cap, moves}
+use Rattle.fn_core.specs.Machine.{no_cap}
 use Rattle.fn_core.specs.Order.{next_move}
 use Rattle.fn_core.specs.Polls.{most_steps, poll_moves, poll_answer}
 use Rattle.fn_core.specs.Begin.{begin_moves, begun}
@@ -74,24 +75,37 @@ is_resting _ = false
 abbrev pub rests : State → ℕ → Bool
 rests s pass = is_resting (s.callers pass).position
 
--- a pass of the line that is in mid-call
-abbrev pub busy : State → ℕ → ℕ → Option PlayFault
-busy s at pass = if rests s pass then None else Some (Busy at pass)
+-- a pass of the line that is in mid-call, by which passes rest
+abbrev pub busy_by : (ℕ → Bool) → ℕ → ℕ → Option PlayFault
+busy_by rest at pass = if rest pass then None else Some (Busy at pass)
 
 -- a pass of the line that makes no call
-abbrev pub idle : State → ℕ → ℕ → Option PlayFault
-idle s at pass = if rests s pass then Some (NothingPending at pass) else None
+abbrev pub idle_by : (ℕ → Bool) → ℕ → ℕ → Option PlayFault
+idle_by rest at pass = if rest pass then Some (NothingPending at pass) else None
 
 -- why an order can't be done now: a step and a poll want a call, and all others none
-abbrev pub order_fault : State → ℕ → ℕ → Order → Option PlayFault
-order_fault s at pass order.Step = idle s at pass
-order_fault s at pass order.Poll = idle s at pass
-order_fault s at pass (order.Meet q) = if rests s pass then busy s at q else Some (Busy at pass)
-order_fault s at pass _ = busy s at pass
+abbrev pub fault_by : (ℕ → Bool) → ℕ → ℕ → Order → Option PlayFault
+fault_by rest at pass order.Step = idle_by rest at pass
+fault_by rest at pass order.Poll = idle_by rest at pass
+fault_by rest at pass (order.Meet q) = if rest pass then busy_by rest at q else Some (Busy at pass)
+fault_by rest at pass _ = busy_by rest at pass
 
--- the least pass in mid-call
+-- the least of so many passes that is in mid-call
+abbrev pub least_busy : (ℕ → Bool) → ℕ → Option ℕ
+least_busy rest passes = find (λ pass. if rest pass then false else true) (range_with_len 0 passes)
+
+-- .. in a state of the core
+abbrev pub busy : State → ℕ → ℕ → Option PlayFault
+busy s at pass = busy_by (rests s) at pass
+
+abbrev pub idle : State → ℕ → ℕ → Option PlayFault
+idle s at pass = idle_by (rests s) at pass
+
+abbrev pub order_fault : State → ℕ → ℕ → Order → Option PlayFault
+order_fault s at pass order = fault_by (rests s) at pass order
+
 abbrev pub unfinished : CoreLog → Option ℕ
-unfinished core = find (λ pass. if rests (state_in core) pass then false else true) (range_with_len 0 core.start.shape.passes)
+unfinished core = least_busy (rests (state_in core)) core.start.shape.passes
 
 -- the end of a script, at which each pass has to rest
 abbrev pub finish : CoreLog → Option ℕ → Result (List LineAnswer × ℕ) PlayFault

@@ -23,7 +23,7 @@ use Rattle.trace_text.specs.declared.scripts.Order.TheVariants as order
 use Rattle.trace_text.specs.declared.scripts.Script.{Script}
 use Rattle.trace_text.specs.declared.scripts.ScriptLine.{ScriptLine}
 use Rattle.funnel_tool.specs.declared.lines.LineAnswer.{LineAnswer}
-use Rattle.funnel_tool.specs.declared.lines.LineAnswer.TheVariants.{NoRow, Reply}
+use Rattle.funnel_tool.specs.declared.lines.LineAnswer.TheVariants.{NoRow, Reply, Lost}
 use Rattle.funnel_tool.specs.Lines.{answers_text}
 use Rattle.funnel_tool.specs.Play.{after_line, opened_core, play_lines}
 
@@ -36,9 +36,10 @@ asked pass number (order.SubDirect n) = record { pass = pass; number = number; k
 asked pass number order.Read = record { pass = pass; number = number; kind = Read; amount = 0 } ∷ []
 asked pass number _ = []
 
--- the call that a line makes after these calls: the next one of its pass, and none where the answer is that no row was free
+-- the call that a line makes after these calls: the next one of its pass, and none where no row was free or a direct subtraction lost
 abbrev pub made_by : List Call → ScriptLine → LineAnswer → List Call
 made_by calls line (NoRow blocked) = []
+made_by calls line (Lost loaded found) = []
 made_by calls line _ = asked line.pass (length (own line.pass calls)) line.order
 
 -- the calls that lines with these answers make, behind those of earlier lines

@@ -1,11 +1,11 @@
 //! How a run ends: its status, and its line on standard error, which takes no memory.
 ghost use Rattle.std.specs.Prelude.{◌≡◌, ◌≤◌, ◌+◌, ◌++◌, [], codes, decimal, length, take};
-ghost use Rattle.funnel_tool.specs.Outcome.{error_line, play_fault_text, refusal_text, script_text, shape_text, status_of};
+ghost use Rattle.funnel_tool.specs.Outcome.{error_line, play_fault_text, refusal_text, script_text, shape_text, status_of, trace_text};
 
 use crate::play::PlayFault;
 use itoa::Buffer;
 use std::marker::Model;
-use trace_text::{ScriptFault, ShapeFault};
+use trace_text::{ScriptFault, ShapeFault, TraceFault};
 
 /// The most bytes that are read.
 pub const INPUT_LIMIT: usize = 33_554_432;
@@ -16,6 +16,8 @@ pub enum Refusal {
     TooLong,
     ByScript(ScriptFault),
     ByPlay(PlayFault),
+    ByTrace(TraceFault),
+    TooManyLines { at: u64 },
 }
 
 /// How a run ends.
@@ -170,6 +172,8 @@ fn push_refusal(line: &mut ErrorLine, why: Refusal)
         Refusal::TooLong => line.push(b"too long"),
         Refusal::ByScript(fault) => push_script_fault(line, fault),
         Refusal::ByPlay(fault) => push_play_fault(line, fault),
+        Refusal::ByTrace(fault) => push_trace_fault(line, fault),
+        Refusal::TooManyLines { at } => line.push_counted(b"too many at ", at),
     }
 }
 
@@ -188,6 +192,27 @@ fn push_script_fault(line: &mut ErrorLine, fault: ScriptFault)
         ScriptFault::TooMany { at } => line.push_counted(b"too many at ", at),
         ScriptFault::Total { at } => line.push_counted(b"total at ", at),
         ScriptFault::NoMemory => line.push(b"no memory"),
+    }
+}
+
+fn push_trace_fault(line: &mut ErrorLine, fault: TraceFault)
+    requires { length line.old ≤ 10 }
+    ensures exact { line.new ≡ line.old ++ trace_text fault }
+    ensures short { length line.new ≤ length line.old + 120 }
+{
+    match fault {
+        TraceFault::Header { at } => line.push_counted(b"header at ", at),
+        TraceFault::Fields { at } => line.push_counted(b"fields at ", at),
+        TraceFault::Worker { at } => line.push_counted(b"worker at ", at),
+        TraceFault::Op { at } => line.push_counted(b"op at ", at),
+        TraceFault::Tenant { at } => line.push_counted(b"tenant at ", at),
+        TraceFault::Amount { at } => line.push_counted(b"amount at ", at),
+        TraceFault::Again { at } => line.push_counted(b"again at ", at),
+        TraceFault::Unknown { at } => line.push_counted(b"unknown at ", at),
+        TraceFault::TooMany { at } => line.push_counted(b"too many at ", at),
+        TraceFault::Total { at } => line.push_counted(b"total at ", at),
+        TraceFault::NoMemory => line.push(b"no memory"),
+        TraceFault::Cap { at } => line.push_counted(b"cap at ", at),
     }
 }
 

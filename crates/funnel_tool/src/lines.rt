@@ -1,6 +1,6 @@
 //! What each line of a script is answered, and the text of the answers.
 ghost use Rattle.std.specs.Prelude.{◌≡◌, ◌++◌, decimal, OnOk};
-ghost use Rattle.funnel_tool.specs.Lines.{answer_line, answer_text, pair_text, value_line, why_text};
+ghost use Rattle.funnel_tool.specs.Lines.{answer_line, answer_text, lost_text, pair_text, value_line, why_text};
 
 use fn_core::{Blocked, Why};
 use itoa::Buffer;
@@ -14,6 +14,8 @@ pub enum LineAnswer {
     Going,
     Reply(u64),
     NotYet(Why),
+    /// A direct subtraction's exchange found another word than the loaded one.
+    Lost { loaded: u64, found: u64 },
     Met,
 }
 
@@ -43,6 +45,7 @@ fn push_answer(text: &mut Vec<u8>, answer: LineAnswer) -> Result<(), AllocError>
         LineAnswer::Going => text.extend_from_slice(b"going"),
         LineAnswer::Reply(number) => push_reply(text, number),
         LineAnswer::NotYet(why) => push_why(text, why),
+        LineAnswer::Lost { loaded, found } => push_lost(text, loaded, found),
         LineAnswer::Met => text.extend_from_slice(b"met"),
     }
 }
@@ -72,11 +75,15 @@ fn push_why(text: &mut Vec<u8>, why: Why) -> Result<(), AllocError>
             text.extend_from_slice(b"behind ")?;
             push_pair(text, done, at)
         }
-        Why::Lost { loaded, found } => {
-            text.extend_from_slice(b"lost ")?;
-            push_pair(text, loaded, found)
-        }
+        Why::Lost { loaded, found } => push_lost(text, loaded, found),
     }
+}
+
+fn push_lost(text: &mut Vec<u8>, loaded: u64, found: u64) -> Result<(), AllocError>
+    ensures { OnOk result (text.new.items ≡ text.old.items ++ lost_text loaded found) }
+{
+    text.extend_from_slice(b"lost ")?;
+    push_pair(text, loaded, found)
 }
 
 fn push_pair(text: &mut Vec<u8>, first: u64, second: u64) -> Result<(), AllocError>

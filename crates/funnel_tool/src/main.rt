@@ -3,14 +3,21 @@
 
 mod ending;
 mod lines;
+mod on_table;
 mod play;
 mod run;
+mod telling;
 #[cfg(test)]
 mod tests;
-mod words;
+#[cfg(test)]
+mod trace_tests;
+mod trial;
+#[cfg(test)]
+mod trial_tests;
 
 use edge_io::{StdSink, StdSource};
-use run::run_play;
+use replay_run::OpenGate;
+use run::run;
 use std::env;
 use std::process::ExitCode;
 
@@ -19,7 +26,15 @@ fn main(rt: HostRuntime) -> Result<ExitCode, std::io::Error> {
     let words: Vec<String> = env::args(&rt)?.skip(1).collect(alloc)?;
     let mut out = StdSink::out(rt.clone()?);
     let mut err = StdSink::err(rt.clone()?);
-    let mut source = StdSource::new(rt);
-    let outcome = run_play(alloc, &words, &mut source, &mut out, &mut err);
+    let mut source = StdSource::new(rt.clone()?);
+    let outcome = run(
+        &rt,
+        alloc,
+        &words,
+        &mut source,
+        &mut out,
+        &mut err,
+        &OpenGate,
+    );
     Ok(ExitCode::from(outcome.status))
 }

@@ -1,25 +1,40 @@
-//! The tool's run: words, input, script, text, and the line of how it ended.
-ghost use Rattle.std.specs.Prelude.{◌≡◌, ◌≤◌, ◌⊎◌, List, ℕ, MatchResult, Some, length};
+//! The tool's run: words, input, text, what is handed back, and the line of how it ended.
+ghost use Rattle.std.specs.Prelude.{◌≡◌, ◌≤◌, ◌⊎◌, Some};
 ghost use Rattle.edge_io.specs.Causes.{Rose};
 ghost use Rattle.edge_io.specs.Whole.{AppendsFront};
+ghost use Rattle.tool_words.specs.Asked.{InRange, asked};
 ghost use Rattle.funnel_tool.specs.declared.ending.Ending.{Ending};
-ghost use Rattle.funnel_tool.specs.Words.{IsPlay};
-ghost use Rattle.funnel_tool.specs.Outcome.{CantPlay, Ends, PlaysTo, Streams, TellsRun, error_line, status_of};
+ghost use Rattle.funnel_tool.specs.Outcome.{Ends, IsComplete, Writes, error_line, of_scripts, reading, status_of, writing};
+ghost use Rattle.funnel_tool.specs.Telling.{Finishes, HasRead, IsPrepared};
 
 use crate::ending::{Ending, INPUT_LIMIT, Refusal};
-use crate::play::{PlayFault, play_script};
-use crate::words::is_play;
+use crate::telling::{Told, Untold, tell_drill, tell_play, tell_relay, tell_replay, tell_trial};
+use crate::trial::Caller;
 use edge_io::{ReadFault, Sink, Source, WriteFault, read_all, write_all};
+use fn_table::Book;
+use quota_pool::Moved;
+use relay_run::QueueBook;
+use replay_run::Gate;
 use std::alloc::Global;
-use trace_text::{ScriptFault, read_script};
+use std::sync::Wait;
+use std::thread::Threads;
+use tool_words::{Command, read_command};
 
 /// What a run comes to.
-#[derive(Clone, Copy, Debug, PartialEq, Eq)]
+#[derive(Drop)]
 pub struct Outcome {
     pub status: u8,
+    /// the book of a trial, or the books of a replay
+    pub books: Vec<Book>,
+    /// the answers of a replay
+    pub answers: Vec<Moved>,
+    /// the book of a relay's queue
+    pub queue: Option<QueueBook<u64>>,
+    /// the callers of the table on which a line of a script couldn't be done
+    pub halted: Vec<Caller>,
 }
 
-/// Reads words and input, plays the script, and writes its text, and a line to `err` where that didn't go well.
+/// Reads words and input, does the script on the core or on the table, and writes its text, and a line to `err` where that didn't go well.
 pub fn run_play<S: Source, K: Sink, E: Sink>(
     alloc: Global,
     words: &[String],
@@ -28,86 +43,193 @@ pub fn run_play<S: Source, K: Sink, E: Sink>(
     err: &mut E,
 ) -> Outcome
     ensures ends { (ending : Ending) × (status_of ending ≡ result.status)
-        × Ends words.now (record {
-          left = S.left source.old;
-          left_then = S.left source.new;
-          read_faults = S.faults source.old;
-          read_faults_then = S.faults source.new;
-          held = K.held out.old;
-          held_then = K.held out.new;
-          write_faults = K.faults out.old;
-          write_faults_then = K.faults out.new;
-          empty_writes = K.empty_writes out.old;
-          empty_writes_then = K.empty_writes out.new;
-        }) ending
+        × Ends (of_scripts (asked words.now)) (reading (S.left source.old) (S.left source.new) (S.faults source.old) (S.faults source.new)) (writing (K.held out.old) (K.held out.new) (K.faults out.old) (K.faults out.new) (K.empty_writes out.old) (K.empty_writes out.new)) result ending
         × AppendsFront (E.held err.old) (E.held err.new) (error_line ending) (Rose (E.faults err.old) (E.faults err.new) ⊎ Rose (E.empty_writes err.old) (E.empty_writes err.new)) }
-    ensures complete { (bytes text : List ℕ) → IsPlay words.now → S.left source.old ≡ Some bytes → length bytes ≤ INPUT_LIMIT → PlaysTo bytes text
-        → (Rose (S.faults source.old) (S.faults source.new) → ⊥) → (Rose (K.faults out.old) (K.faults out.new) → ⊥) → (Rose (K.empty_writes out.old) (K.empty_writes out.new) → ⊥)
-        → (result.status ≡ 0) ⊎ (result.status ≡ 6) }
+    ensures complete { IsComplete (of_scripts (asked words.now)) (reading (S.left source.old) (S.left source.new) (S.faults source.old) (S.faults source.new)) (writing (K.held out.old) (K.held out.new) (K.faults out.old) (K.faults out.new) (K.empty_writes out.old) (K.empty_writes out.new)) result }
     ensures quiet { result.status ≡ 0 → err.new ≡ err.old }
     ensures later_read { S.faults source.old ≤ S.faults source.new }
     ensures later_written { (K.faults out.old ≤ K.faults out.new) × (K.empty_writes out.old ≤ K.empty_writes out.new) }
     ensures later_told { (E.faults err.old ≤ E.faults err.new) × (E.empty_writes err.old ≤ E.empty_writes err.new) }
 {
-    let ending = play(alloc, words, source, out);
-    tell(err, ending);
-    Outcome {
-        status: ending.status(),
+    let told = prepare_script(alloc, words, source);
+    finish(alloc, out, err, told)
+}
+
+/// Reads words and input, does what they ask for, and writes its text, and a line to `err` where that didn't go well. It waits for the workers of a replay or of a relay, who ask the gate before and after each row or line.
+pub fn run<R: Threads + Wait + Sync, S: Source, K: Sink, E: Sink, G: Gate + Sync>(
+    rt: &R,
+    alloc: Global,
+    words: &[String],
+    source: &mut S,
+    out: &mut K,
+    err: &mut E,
+    gate: &G,
+) -> Outcome
+    ensures ends { (ending : Ending) × (status_of ending ≡ result.status)
+        × Ends (asked words.now) (reading (S.left source.old) (S.left source.new) (S.faults source.old) (S.faults source.new)) (writing (K.held out.old) (K.held out.new) (K.faults out.old) (K.faults out.new) (K.empty_writes out.old) (K.empty_writes out.new)) result ending
+        × AppendsFront (E.held err.old) (E.held err.new) (error_line ending) (Rose (E.faults err.old) (E.faults err.new) ⊎ Rose (E.empty_writes err.old) (E.empty_writes err.new)) }
+    ensures complete { IsComplete (asked words.now) (reading (S.left source.old) (S.left source.new) (S.faults source.old) (S.faults source.new)) (writing (K.held out.old) (K.held out.new) (K.faults out.old) (K.faults out.new) (K.empty_writes out.old) (K.empty_writes out.new)) result }
+    ensures quiet { result.status ≡ 0 → err.new ≡ err.old }
+    ensures later_read { S.faults source.old ≤ S.faults source.new }
+    ensures later_written { (K.faults out.old ≤ K.faults out.new) × (K.empty_writes out.old ≤ K.empty_writes out.new) }
+    ensures later_told { (E.faults err.old ≤ E.faults err.new) × (E.empty_writes err.old ≤ E.empty_writes err.new) }
+{
+    let told = prepare(rt, alloc, words, source, gate);
+    finish(alloc, out, err, told)
+}
+
+// The text of the script that the words ask for.
+fn prepare_script<S: Source>(
+    alloc: Global,
+    words: &[String],
+    source: &mut S,
+) -> Result<Told, Untold>
+    ensures prepared { IsPrepared (of_scripts (asked words.now)) (reading (S.left source.old) (S.left source.new) (S.faults source.old) (S.faults source.new)) result }
+    ensures later { S.faults source.old ≤ S.faults source.new }
+{
+    match read_command(alloc, words) {
+        Ok(Some(command)) => tell_script(alloc, command, source),
+        Ok(None) => Err(Untold::new(alloc, Ending::Words)),
+        Err(_) => Err(Untold::new(alloc, Ending::NoMemory)),
     }
 }
 
-// Plays the script that a source gives, where the words ask for it.
-fn play<S: Source, K: Sink>(alloc: Global, words: &[String], source: &mut S, out: &mut K) -> Ending
-    ensures ends { Ends words.now (record {
-      left = S.left source.old;
-      left_then = S.left source.new;
-      read_faults = S.faults source.old;
-      read_faults_then = S.faults source.new;
-      held = K.held out.old;
-      held_then = K.held out.new;
-      write_faults = K.faults out.old;
-      write_faults_then = K.faults out.new;
-      empty_writes = K.empty_writes out.old;
-      empty_writes_then = K.empty_writes out.new;
-    }) result }
-    ensures later_read { S.faults source.old ≤ S.faults source.new }
-    ensures later_written { (K.faults out.old ≤ K.faults out.new) × (K.empty_writes out.old ≤ K.empty_writes out.new) }
+// The text of what the words ask for.
+fn prepare<R: Threads + Wait + Sync, S: Source, G: Gate + Sync>(
+    rt: &R,
+    alloc: Global,
+    words: &[String],
+    source: &mut S,
+    gate: &G,
+) -> Result<Told, Untold>
+    ensures prepared { IsPrepared (asked words.now) (reading (S.left source.old) (S.left source.new) (S.faults source.old) (S.faults source.new)) result }
+    ensures later { S.faults source.old ≤ S.faults source.new }
 {
-    match is_play(alloc, words) {
-        Ok(true) => {}
-        Ok(false) => return Ending::Words,
-        Err(_) => return Ending::NoMemory,
+    match read_command(alloc, words) {
+        Ok(Some(command)) => tell_command(rt, alloc, command, source, gate),
+        Ok(None) => Err(Untold::new(alloc, Ending::Words)),
+        Err(_) => Err(Untold::new(alloc, Ending::NoMemory)),
     }
-    let bytes = match read_all(alloc, source, INPUT_LIMIT) {
-        Ok(bytes) => bytes,
-        Err(ReadFault::Failed) => return Ending::ReadFailed,
-        Err(ReadFault::TooLong { limit: _ }) => return Ending::Refused(Refusal::TooLong),
-        Err(ReadFault::NoMemory) => return Ending::NoMemory,
-    };
-    let text = match text_of(alloc, &bytes) {
-        Ok(text) => text,
-        Err(ending) => return ending,
-    };
-    match write_all(out, &text) {
+}
+
+// The text of a command on scripts.
+fn tell_script<S: Source>(alloc: Global, command: Command, source: &mut S) -> Result<Told, Untold>
+    ensures prepared { IsPrepared (of_scripts (Some command)) (reading (S.left source.old) (S.left source.new) (S.faults source.old) (S.faults source.new)) result }
+    ensures later { S.faults source.old ≤ S.faults source.new }
+{
+    match command {
+        Command::Play => tell_play(alloc, &read_input(alloc, source)?),
+        Command::Trial => tell_trial(alloc, &read_input(alloc, source)?),
+        Command::Replay { .. } | Command::Drill { .. } | Command::Relay { .. } => {
+            Err(Untold::new(alloc, Ending::Words))
+        }
+    }
+}
+
+// The text of a command.
+fn tell_command<R: Threads + Wait + Sync, S: Source, G: Gate + Sync>(
+    rt: &R,
+    alloc: Global,
+    command: Command,
+    source: &mut S,
+    gate: &G,
+) -> Result<Told, Untold>
+    requires { InRange command }
+    ensures prepared { IsPrepared (Some command) (reading (S.left source.old) (S.left source.new) (S.faults source.old) (S.faults source.new)) result }
+    ensures later { S.faults source.old ≤ S.faults source.new }
+{
+    match command {
+        Command::Play | Command::Trial => tell_script(alloc, command, source),
+        Command::Replay { workers } => {
+            tell_replay(rt, alloc, workers, &read_input(alloc, source)?, gate)
+        }
+        Command::Drill {
+            seed,
+            rows,
+            workers,
+        } => tell_drill(rt, alloc, seed, rows, workers, gate),
+        Command::Relay { workers, capacity } => {
+            tell_relay(
+                rt,
+                alloc,
+                workers,
+                capacity,
+                &read_input(alloc, source)?,
+                gate,
+            )
+        }
+    }
+}
+
+// The bytes of the input.
+fn read_input<S: Source>(alloc: Global, source: &mut S) -> Result<Vec<u8>, Untold>
+    ensures read { HasRead (reading (S.left source.old) (S.left source.new) (S.faults source.old) (S.faults source.new)) result }
+    ensures later { S.faults source.old ≤ S.faults source.new }
+{
+    match read_all(alloc, source, INPUT_LIMIT) {
+        Ok(bytes) => Ok(bytes),
+        Err(ReadFault::Failed) => Err(Untold::new(alloc, Ending::ReadFailed)),
+        Err(ReadFault::TooLong { limit: _ }) => {
+            Err(Untold::new(alloc, Ending::Refused(Refusal::TooLong)))
+        }
+        Err(ReadFault::NoMemory) => Err(Untold::new(alloc, Ending::NoMemory)),
+    }
+}
+
+// Writes the text, or the line of how the run ended without one.
+fn finish<K: Sink, E: Sink>(
+    alloc: Global,
+    out: &mut K,
+    err: &mut E,
+    told: Result<Told, Untold>,
+) -> Outcome
+    ensures ends { (ending : Ending) × (status_of ending ≡ result.status)
+        × Finishes told (writing (K.held out.old) (K.held out.new) (K.faults out.old) (K.faults out.new) (K.empty_writes out.old) (K.empty_writes out.new)) result ending
+        × AppendsFront (E.held err.old) (E.held err.new) (error_line ending) (Rose (E.faults err.old) (E.faults err.new) ⊎ Rose (E.empty_writes err.old) (E.empty_writes err.new)) }
+    ensures quiet { result.status ≡ 0 → err.new ≡ err.old }
+    ensures later_written { (K.faults out.old ≤ K.faults out.new) × (K.empty_writes out.old ≤ K.empty_writes out.new) }
+    ensures later_told { (E.faults err.old ≤ E.faults err.new) × (E.empty_writes err.old ≤ E.empty_writes err.new) }
+{
+    match told {
+        Ok(told) => {
+            let Told {
+                text,
+                answers,
+                books,
+                queue,
+            } = told;
+            let ending = write_text(out, &text);
+            tell(err, ending);
+            Outcome {
+                status: ending.status(),
+                books,
+                answers,
+                queue,
+                halted: Vec::new(alloc),
+            }
+        }
+        Err(Untold { ending, halted }) => {
+            tell(err, ending);
+            Outcome {
+                status: ending.status(),
+                books: Vec::new(alloc),
+                answers: Vec::new(alloc),
+                queue: None,
+                halted,
+            }
+        }
+    }
+}
+
+// Writes a text.
+fn write_text<K: Sink>(out: &mut K, text: &[u8]) -> Ending
+    ensures written { Writes (writing (K.held out.old) (K.held out.new) (K.faults out.old) (K.faults out.new) (K.empty_writes out.old) (K.empty_writes out.new)) text.now result }
+    ensures later { (K.faults out.old ≤ K.faults out.new) × (K.empty_writes out.old ≤ K.empty_writes out.new) }
+{
+    match write_all(out, text) {
         Ok(()) => Ending::Done,
         Err(WriteFault::Failed) => Ending::WriteFailed,
         Err(WriteFault::Stuck) => Ending::WriteStuck,
-    }
-}
-
-// The text of the script that some bytes spell, or how a run ends without one.
-fn text_of(alloc: Global, bytes: &[u8]) -> Result<Vec<u8>, Ending>
-    ensures { MatchResult result (λ text. TellsRun bytes.now text.items) (λ ending. CantPlay bytes.now ending) }
-{
-    let script = match read_script(alloc, bytes) {
-        Ok(script) => script,
-        Err(ScriptFault::NoMemory) => return Err(Ending::NoMemory),
-        Err(fault) => return Err(Ending::Refused(Refusal::ByScript(fault))),
-    };
-    match play_script(alloc, &script) {
-        Ok(text) => Ok(text),
-        Err(PlayFault::NoMemory) => Err(Ending::NoMemory),
-        Err(fault) => Err(Ending::Refused(Refusal::ByPlay(fault))),
     }
 }
 

@@ -1,22 +1,22 @@
 //! Whole runs on fakes of the streams.
 use super::*;
-use crate::run::{Outcome, run_play};
+use crate::run::run_play;
 use edge_io::{MemSink, MemSource};
 use std::test::Fail;
 
 #[derive(Clone, Copy)]
-struct Row {
-    input: &'static str,
+pub(crate) struct Row {
+    pub(crate) input: &'static str,
     /// how many newlines follow the input
-    newlines: usize,
+    pub(crate) newlines: usize,
     /// what follows them
-    after: &'static str,
-    stdout: &'static str,
-    stderr: &'static str,
-    status: u8,
+    pub(crate) after: &'static str,
+    pub(crate) stdout: &'static str,
+    pub(crate) stderr: &'static str,
+    pub(crate) status: u8,
 }
 
-static ROWS: [Row; 60] = [
+pub(crate) static ROWS: [Row; 60] = [
     // a member polls before its delegate
     Row {
         input: "funnel 3 1 1 2 10\n0 add 5\n1 add 7\n2 add 1\n1 poll\n0 poll\n1 poll\n2 poll\n",
@@ -560,18 +560,19 @@ static ROWS: [Row; 60] = [
 ];
 
 fn play_words(rt: &HostRuntime) -> Result<Vec<String>, Fail> {
-    words_of(rt, &["play"])
+    words_of(rt, "play")
 }
 
-fn words_of(rt: &HostRuntime, texts: &[&str]) -> Result<Vec<String>, Fail> {
+// The words of a line.
+pub(crate) fn words_of(rt: &HostRuntime, line: &str) -> Result<Vec<String>, Fail> {
     let mut words = Vec::new(rt.alloc());
-    for text in texts {
-        words.push(String::from_str(rt.alloc(), text)?)?;
+    for word in line.split_whitespace() {
+        words.push(String::from_str(rt.alloc(), word)?)?;
     }
     Ok(words)
 }
 
-fn input_of(rt: &HostRuntime, row: Row) -> Result<Vec<u8>, Fail> {
+pub(crate) fn input_of(rt: &HostRuntime, row: Row) -> Result<Vec<u8>, Fail> {
     let mut input = Vec::from_slice(rt.alloc(), row.input.as_bytes())?;
     let newlines = vec![in rt.alloc(); b'\n'; row.newlines]?;
     input.extend_from_slice(&newlines)?;
@@ -579,18 +580,37 @@ fn input_of(rt: &HostRuntime, row: Row) -> Result<Vec<u8>, Fail> {
     Ok(input)
 }
 
+// Runs a script by a command: the status, and what was written.
+fn ran(rt: &HostRuntime, command: &str, row: Row) -> Result<(u8, Vec<u8>, Vec<u8>), Fail> {
+    let words = words_of(rt, command)?;
+    let input = input_of(rt, row)?;
+    let mut source = MemSource::new(rt.alloc(), &input, 4096, &[])?;
+    let mut out = MemSink::new(rt.alloc(), 1000, 100, &[])?;
+    let mut err = MemSink::new(rt.alloc(), 1000, 100, &[])?;
+    let outcome = run_play(rt.alloc(), &words, &mut source, &mut out, &mut err);
+    let text = Vec::from_slice(rt.alloc(), out.held())?;
+    let line = Vec::from_slice(rt.alloc(), err.held())?;
+    Ok((outcome.status, text, line))
+}
+
 #[test]
 fn scripts_give_their_texts_or_faults(rt: HostRuntime) -> Result<(), Fail> {
-    let words = play_words(&rt)?;
     for row in &ROWS {
-        let input = input_of(&rt, *row)?;
-        let mut source = MemSource::new(rt.alloc(), &input, 4096, &[])?;
-        let mut out = MemSink::new(rt.alloc(), 1000, 100, &[])?;
-        let mut err = MemSink::new(rt.alloc(), 1000, 100, &[])?;
-        let outcome = run_play(rt.alloc(), &words, &mut source, &mut out, &mut err);
-        assert_eq!(rt; outcome.status, row.status);
-        assert_eq!(rt; out.held(), row.stdout.as_bytes());
-        assert_eq!(rt; err.held(), row.stderr.as_bytes());
+        let (status, text, line) = ran(&rt, "play", *row)?;
+        assert_eq!(rt; status, row.status);
+        assert_eq!(rt; text.as_slice(), row.stdout.as_bytes());
+        assert_eq!(rt; line.as_slice(), row.stderr.as_bytes());
+    }
+    Ok(())
+}
+
+#[test]
+fn the_table_gives_the_same(rt: HostRuntime) -> Result<(), Fail> {
+    for row in &ROWS {
+        let (status, text, line) = ran(&rt, "trial", *row)?;
+        assert_eq!(rt; status, row.status);
+        assert_eq!(rt; text.as_slice(), row.stdout.as_bytes());
+        assert_eq!(rt; line.as_slice(), row.stderr.as_bytes());
     }
     Ok(())
 }
@@ -607,7 +627,7 @@ fn a_failed_read_writes_nothing(rt: HostRuntime) -> Result<(), Fail> {
         let mut out = MemSink::new(rt.alloc(), 1000, 10, &[])?;
         let mut err = MemSink::new(rt.alloc(), 1000, 5, &[])?;
         let outcome = run_play(rt.alloc(), &words, &mut source, &mut out, &mut err);
-        assert_eq!(rt; outcome, Outcome { status: 4 });
+        assert_eq!(rt; outcome.status, 4);
         assert_eq!(rt; out.held().len(), 0);
         assert_eq!(rt; err.held(), b"read failed\n".as_slice());
     }
@@ -623,7 +643,7 @@ fn a_failed_write_leaves_a_front(rt: HostRuntime) -> Result<(), Fail> {
         let mut out = MemSink::new(rt.alloc(), 1000, 10, &[write])?;
         let mut err = MemSink::new(rt.alloc(), 1000, 100, &[])?;
         let outcome = run_play(rt.alloc(), &words, &mut source, &mut out, &mut err);
-        assert_eq!(rt; outcome, Outcome { status: 5 });
+        assert_eq!(rt; outcome.status, 5);
         assert_eq!(rt; out.held().len(), whole);
         assert!(rt; TEXT.as_bytes().starts_with(out.held()));
         assert_eq!(rt; err.held(), b"write failed\n".as_slice());
@@ -639,7 +659,7 @@ fn a_sink_that_takes_nothing_is_told_apart(rt: HostRuntime) -> Result<(), Fail> 
     let mut out = MemSink::new(rt.alloc(), 1000, 0, &[])?;
     let mut err = MemSink::new(rt.alloc(), 1000, 100, &[])?;
     let outcome = run_play(rt.alloc(), &words, &mut source, &mut out, &mut err);
-    assert_eq!(rt; outcome, Outcome { status: 5 });
+    assert_eq!(rt; outcome.status, 5);
     assert_eq!(rt; err.held(), b"write stuck\n".as_slice());
     Ok(())
 }
@@ -651,13 +671,13 @@ fn a_failed_line_leaves_the_status(rt: HostRuntime) -> Result<(), Fail> {
     let mut out = MemSink::new(rt.alloc(), 1000, 10, &[])?;
     let mut err = MemSink::new(rt.alloc(), 1000, 9, &[1])?;
     let outcome = run_play(rt.alloc(), &words, &mut source, &mut out, &mut err);
-    assert_eq!(rt; outcome, Outcome { status: 3 });
+    assert_eq!(rt; outcome.status, 3);
     assert_eq!(rt; err.held(), b"refused: ".as_slice());
     Ok(())
 }
 
-fn status_of_words(rt: &HostRuntime, texts: &[&str]) -> Result<u8, Fail> {
-    let words = words_of(rt, texts)?;
+fn status_of_words(rt: &HostRuntime, line: &str) -> Result<u8, Fail> {
+    let words = words_of(rt, line)?;
     let mut source = MemSource::new(rt.alloc(), SCRIPT.as_bytes(), 7, &[])?;
     let mut out = MemSink::new(rt.alloc(), 1000, 10, &[])?;
     let mut err = MemSink::new(rt.alloc(), 1000, 100, &[])?;
@@ -665,11 +685,12 @@ fn status_of_words(rt: &HostRuntime, texts: &[&str]) -> Result<u8, Fail> {
 }
 
 #[test]
-fn words_are_play_alone(rt: HostRuntime) -> Result<(), Fail> {
-    assert_eq!(rt; status_of_words(&rt, &["play"])?, 0);
-    assert_eq!(rt; status_of_words(&rt, &["play", "--"])?, 0);
-    assert_eq!(rt; status_of_words(&rt, &["play", "1"])?, 2);
-    assert_eq!(rt; status_of_words(&rt, &["played"])?, 2);
-    assert_eq!(rt; status_of_words(&rt, &[])?, 2);
+fn words_are_of_scripts(rt: HostRuntime) -> Result<(), Fail> {
+    assert_eq!(rt; status_of_words(&rt, "play")?, 0);
+    assert_eq!(rt; status_of_words(&rt, "trial --")?, 0);
+    assert_eq!(rt; status_of_words(&rt, "play 1")?, 2);
+    assert_eq!(rt; status_of_words(&rt, "replay 1")?, 2);
+    assert_eq!(rt; status_of_words(&rt, "sum")?, 2);
+    assert_eq!(rt; status_of_words(&rt, "")?, 2);
     Ok(())
 }

@@ -1,21 +1,17 @@
-use Rattle.std.proofs.Common.{sym}
-use Rattle.funnel_tool.proofs.Outcomes.{complete-by}
+use Rattle.tool_words.specs.Asked.{asked}
+use Rattle.funnel_tool.specs.Outcome.{of_scripts, reading, writing}
+use Rattle.funnel_tool.proofs.Complete.{ends-complete}
+use Rattle.funnel_tool.proofs.Preparing.{prepared-ends}
 use Rattle.funnel_tool.proofs.run.run_play.Goals as goal
 
 pub returns-clause-ends : goal.returns-clause-ends
-returns-clause-ends g c = (c.play-ending.result, sym c.status.ensures, c.play-ending.ensures.ends, c.tell.ensures.line)
+returns-clause-ends g c =
+    let done = c.finish.ensures.ends in
+    let ends = prepared-ends (of_scripts (asked c.args.words.now)) (reading (g.S.Source.left c.args.source.now) (g.S.Source.left c.prepare_script-told.new.source) (g.S.Source.faults c.args.source.now) (g.S.Source.faults c.prepare_script-told.new.source)) (writing (g.K.Sink.held c.args.out.now) (g.K.Sink.held c.finish.new.out) (g.K.Sink.faults c.args.out.now) (g.K.Sink.faults c.finish.new.out) (g.K.Sink.empty_writes c.args.out.now) (g.K.Sink.empty_writes c.finish.new.out)) c.finish.result done.0 c.prepare_script-told.result c.prepare_script-told.ensures.prepared done.2 in
+    (done.0, done.1, ends, done.3)
 
 pub returns-clause-complete : goal.returns-clause-complete
 returns-clause-complete g c =
-    λ bytes text asked told short plays read written stuck. rw c.status.ensures (complete-by c.args.words.now (record {
-      left = g.S.Source.left c.args.source.now;
-      left_then = g.S.Source.left c.play-ending.new.source;
-      read_faults = g.S.Source.faults c.args.source.now;
-      read_faults_then = g.S.Source.faults c.play-ending.new.source;
-      held = g.K.Sink.held c.args.out.now;
-      held_then = g.K.Sink.held c.play-ending.new.out;
-      write_faults = g.K.Sink.faults c.args.out.now;
-      write_faults_then = g.K.Sink.faults c.play-ending.new.out;
-      empty_writes = g.K.Sink.empty_writes c.args.out.now;
-      empty_writes_then = g.K.Sink.empty_writes c.play-ending.new.out;
-    }) c.play-ending.result bytes text c.play-ending.ensures.ends asked told short plays read written stuck)
+    let done = c.finish.ensures.ends in
+    let ends = prepared-ends (of_scripts (asked c.args.words.now)) (reading (g.S.Source.left c.args.source.now) (g.S.Source.left c.prepare_script-told.new.source) (g.S.Source.faults c.args.source.now) (g.S.Source.faults c.prepare_script-told.new.source)) (writing (g.K.Sink.held c.args.out.now) (g.K.Sink.held c.finish.new.out) (g.K.Sink.faults c.args.out.now) (g.K.Sink.faults c.finish.new.out) (g.K.Sink.empty_writes c.args.out.now) (g.K.Sink.empty_writes c.finish.new.out)) c.finish.result done.0 c.prepare_script-told.result c.prepare_script-told.ensures.prepared done.2 in
+    ends-complete (of_scripts (asked c.args.words.now)) (reading (g.S.Source.left c.args.source.now) (g.S.Source.left c.prepare_script-told.new.source) (g.S.Source.faults c.args.source.now) (g.S.Source.faults c.prepare_script-told.new.source)) (writing (g.K.Sink.held c.args.out.now) (g.K.Sink.held c.finish.new.out) (g.K.Sink.faults c.args.out.now) (g.K.Sink.faults c.finish.new.out) (g.K.Sink.empty_writes c.args.out.now) (g.K.Sink.empty_writes c.finish.new.out)) c.finish.result done.0 ends done.1

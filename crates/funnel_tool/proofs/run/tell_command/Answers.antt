@@ -1,0 +1,20 @@
+use Rattle.std.proofs.Common.{Some, refl, sym, ap, []}
+use Rattle.tool_words.specs.declared.commands.Command.TheVariants.{Replay, Drill, Relay}
+use Rattle.funnel_tool.specs.Outcome.{reading}
+use Rattle.funnel_tool.proofs.Preparing.{telling-prepared}
+use Rattle.funnel_tool.proofs.run.tell_command.Goals as goal
+
+pub returns-in_ok-read_input-in-Replay-clause-prepared : goal.returns-in_ok-read_input-in-Replay-clause-prepared
+returns-in_ok-read_input-in-Replay-clause-prepared g c =
+    telling-prepared (Replay c.in-Replay.workers) (Some c.args.command) (reading (g.S.Source.left c.args.source.now) (g.S.Source.left c.read_input.new.source) (g.S.Source.faults c.args.source.now) (g.S.Source.faults c.read_input.new.source))
+    c.deref.result.now c.tell_replay.result (ap Some c.in-Replay.is) (rw c.deref.ensures.value c.in_ok-read_input-in-Replay.ensures.read) c.tell_replay.ensures
+
+pub returns-in-Drill-clause-prepared : goal.returns-in-Drill-clause-prepared
+returns-in-Drill-clause-prepared g c =
+    telling-prepared (Drill c.in-Drill.seed c.in-Drill.rows c.in-Drill.workers) (Some c.args.command) (reading (g.S.Source.left c.args.source.now) (g.S.Source.left c.args.source.now) (g.S.Source.faults c.args.source.now) (g.S.Source.faults c.args.source.now))
+    [] c.tell_drill.result (ap Some c.in-Drill.is) (refl, refl) c.tell_drill.ensures
+
+pub returns-in_ok-read_input-in-Relay-clause-prepared : goal.returns-in_ok-read_input-in-Relay-clause-prepared
+returns-in_ok-read_input-in-Relay-clause-prepared g c =
+    telling-prepared (Relay c.in-Relay.workers c.in-Relay.capacity) (Some c.args.command) (reading (g.S.Source.left c.args.source.now) (g.S.Source.left c.read_input-in-Relay.new.source) (g.S.Source.faults c.args.source.now) (g.S.Source.faults c.read_input-in-Relay.new.source))
+    c.deref-in-Relay.result.now c.tell_relay.result (ap Some c.in-Relay.is) (rw c.deref-in-Relay.ensures.value c.in_ok-read_input-in-Relay.ensures.read) c.tell_relay.ensures

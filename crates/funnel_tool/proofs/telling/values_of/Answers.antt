@@ -1,0 +1,11 @@
+use Rattle.std.proofs.Common.{rules, ◌≡◌, ◌<◌, ◌∙◌, ◌∷◌, ◌++◌, [], ap, length, map, refl}
+use Rattle.std.proofs.lemmas.List.{map-append, take_more}
+use Rattle.replay_run.specs.Replay.{value_in}
+use Rattle.funnel_tool.proofs.telling.values_of.Goals as goal
+
+pub loop-book-preserved : goal.loop-book-preserved
+loop-book-preserved c =
+    let items : c.push.new.self.items ≡ c.loop-book.values.items ++ c.value.result ∷ [] = search rules in
+    let within : c.loop-book.book-index < length c.args.books.now = search rules in
+    let more = take_more c.args.books.now c.loop-book.book-index c.book-item.result within in
+    rw (more, map-append, ← c.book-item.is, items, c.loop-book.invariant, c.value.ensures) refl
