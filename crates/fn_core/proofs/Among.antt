@@ -5,29 +5,8 @@ use Rattle.std.specs.List.{range_with_len, filter, find, flat_map, Contains}
 use Rattle.std.proofs.lemmas.Bool.{cases_eq, false≢true}
 use Rattle.std.proofs.lemmas.Grind.{flat_map-append}
 use Rattle.std.proofs.lemmas.List.{map-append, append-nil}
+pub use Rattle.fn_model.proofs.Lists.{Has, has_range, none_found}
 use Rattle.fn_core.specs.Begin.{up_to}
-
--- the item is one of the list
-abbrev pub Has : {A : Type 0} → List A → A → Type 0
-Has [] x = ⊥
-Has (y ∷ ys) x = (x ≡ y) ⊎ Has ys x
-
-pub has_range : (a n k : ℕ) → a ≤ k → k < a + n → Has (range_with_len a n) k
-has_range a zero k from to = absurd (omega arith)
-has_range a (suc n) k from to = elim (cases_eq k a) [
-  | inl here ↦ inl here
-  | inr later ↦ inr (has_range (a + 1) n k (omega arith) (omega arith))
-]
-
--- where no item is found, the test holds of none
-pub none_found : (test : ℕ → Bool) (xs : List ℕ) (x : ℕ) → find test xs ≡ None → Has xs x → test x ≡ false
-none_found test [] x none has = absurd has
-none_found test (y ∷ ys) x none has = by (test y) refl none has (λ later more. none_found test ys x later more)
-  where
-    by : (b : Bool) → test y ≡ b → cond b (Some y) (find test ys) ≡ None → (x ≡ y) ⊎ Has ys x → (find test ys ≡ None → Has ys x → test x ≡ false) → test x ≡ false
-    by true holds found has rest = absurd (cc)
-    by false holds found (inl here) rest = ap test here ∙ holds
-    by false holds found (inr later) rest = rest found later
 
 -- what is found is an item of the list, and the last one up to it
 pub record IsFound {A : Type 0} (test : A → Bool) (xs : List A) (x : A) : Type 0 where

@@ -6,6 +6,7 @@ use Rattle.std.proofs.lemmas.List.{get_or-set_same, get_or-set_other, length-set
 use Rattle.std.proofs.lemmas.Option.{slice_get-get_or, get_or_from_slice_get, slice_get_within}
 use Rattle.fn_model.specs.declared.Kind.{Kind}
 use Rattle.fn_model.specs.Calls.{same_kind}
+use Rattle.fn_model.proofs.Lists.{slice_get-set_same, slice_get-set_other}
 use Rattle.fn_rows.specs.Aggregator.{Aggregator, Steps, state_of}
 use Rattle.fn_rows.specs.Machine.{Step, Guard, member_of, put, after}
 use Rattle.fn_rows.specs.Machine as rows_machine
@@ -23,14 +24,6 @@ use Rattle.fn_core.specs.declared.machine.Machine.{Machine}
 use Rattle.fn_core.specs.State.{State, Caller, put_at, local}
 use Rattle.fn_core.specs.Fields.{IsPlace, ArePlaces, AreStandings, Mirrors, standing_of}
 use Rattle.fn_core.proofs.Places.{same_place, put_at_there, test_true, same_kind-refl}
-
--- what was written is read, and elsewhere what stood there
-pub slice_get-set_same : {A : Type 0} (xs : List A) (i : ℕ) (x : A) → i < length xs → slice_get (set xs i x) i ≡ Some x
-slice_get-set_same xs i x within = slice_get-get_or (set xs i x) i x (omega (arith, length-set xs i x)) ∙ ap Some (get_or-set_same xs i x x within)
-
-pub slice_get-set_other : {A : Type 0} (xs : List A) (i j : ℕ) (x y : A) → j ≢ i → slice_get xs j ≡ Some y → slice_get (set xs i x) j ≡ Some y
-slice_get-set_other xs i j x y other is =
-    slice_get-get_or (set xs i x) j y (omega (arith, length-set xs i x, slice_get_within xs j y is)) ∙ ap Some (get_or-set_other xs i j x y other ∙ get_or_from_slice_get xs j y y is)
 
 -- an aggregator of a pass that makes calls at this level
 pub own_place : (shape : Shape) (pass : ℕ) (kind : Kind) (level : ℕ) → IsSlot shape pass kind level → IsAggregator shape kind level (aggregator shape pass level)

@@ -1,7 +1,7 @@
 -- Lines that are done on a table one after the other, and the callers that they leave.
 use Rattle.std.specs.Prelude.{if◌then◌else◌, option_map}
 use Rattle.std.specs.List.{range_with_len}
-use Rattle.fn_core.proofs.Among.{has_range, none_found}
+use Rattle.fn_model.proofs.Lists.{has_range, none_found}
 use Rattle.std.proofs.Common.{◌≡◌, ◌≢◌, ◌⊎◌, inl, inr, ℕ, zero, suc, ◌+◌, ◌-◌, ◌<◌, ◌≤◌, Bool, true, false, List, [], ◌∷◌, ◌++◌, Option, None, Some, All, map, length, get_or, take, drop, slice_get, slice_set, refl, sym, ◌∙◌, ap, subst, arith, append_assoc, flat_map}
 use Rattle.std.proofs.lemmas.Grind.{flat_map-append}
 use Rattle.std.proofs.lemmas.List.{append-nil, drop_all, length-map, length-set, take-append-drop, take_all, take_more}

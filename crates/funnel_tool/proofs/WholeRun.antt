@@ -15,7 +15,7 @@ use Rattle.fn_core.specs.State.{State, history_in}
 use Rattle.fn_core.specs.Machine.{no_cap}
 use Rattle.fn_core.specs.Laws.{HasReply}
 use Rattle.fn_core.specs.Calls.{CoreLog, HasCall, IsIdle, IsLegal, calls_in, state_in}
-use Rattle.fn_core.proofs.Among.{has_range, none_found}
+use Rattle.fn_model.proofs.Lists.{has_range, none_found}
 use Rattle.fn_core.proofs.Grows.{histories_grow}
 use Rattle.fn_core.proofs.Laws.{calls_stand_once, main_is_value}
 use Rattle.fn_core.proofs.Opened.{start_is}

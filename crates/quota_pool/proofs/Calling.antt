@@ -10,7 +10,7 @@ use Rattle.fn_model.specs.declared.Kind.TheVariants.{Add, Sub, Read}
 use Rattle.fn_core.specs.declared.Start.{Start}
 use Rattle.fn_core.specs.Calls.{IsIdle}
 use Rattle.fn_core.specs.Entries.{IsAlone}
-use Rattle.fn_core.proofs.Mirror.{slice_get-set_same, slice_get-set_other}
+use Rattle.fn_model.proofs.Lists.{slice_get-set_same, slice_get-set_other}
 use Rattle.fn_core.specs.declared.Move.TheVariants.{Load}
 use Rattle.fn_core.specs.declared.Purpose.TheVariants as purpose
 use Rattle.fn_table.specs.Seen.{TableView, PassView, IsOf, Stepped}

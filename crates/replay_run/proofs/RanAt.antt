@@ -9,7 +9,7 @@ use Rattle.fn_model.specs.declared.Call.{Call}
 use Rattle.fn_model.specs.Calls.{own}
 use Rattle.fn_core.specs.Laws.{HasReply, AreNumbered}
 use Rattle.fn_core.specs.Calls.{calls_in, IsLegal}
-use Rattle.fn_core.proofs.Mirror.{slice_get-set_same}
+use Rattle.fn_model.proofs.Lists.{slice_get-set_same}
 use Rattle.fn_core.proofs.Owned.{own_calls_are_in_order}
 use Rattle.fn_table.specs.Seen.{PassView}
 use Rattle.fn_climb.proofs.Sofar.{prefix_on}

@@ -4,7 +4,7 @@ use Rattle.std.proofs.lemmas.Bool.{cases_eq}
 use Rattle.std.proofs.lemmas.List.Sums.{sum_by-cons}
 use Rattle.std.proofs.lemmas.List.Elements.{All-head, All-tail}
 use Rattle.std.proofs.lemmas.Option.{slice_get_within}
-use Rattle.fn_core.proofs.Mirror.{slice_get-set_same}
+use Rattle.fn_model.proofs.Lists.{slice_get-set_same}
 use Rattle.fn_core.specs.Calls.{left_of}
 use Rattle.quota_pool.specs.Views.{PoolView, DeskView, left_at, left_in}
 use Rattle.quota_pool.specs.Calls.{CallsAt}
