@@ -1,7 +1,8 @@
--- What a call leaves of its pass's allowance, and that it leaves the other passes alone.
+-- What a call leaves of its pass, and that it leaves the other passes alone.
 use Rattle.std.proofs.Common.{◌≡◌, inl, inr, ℕ, zero, suc, ◌+◌, ◌<◌, ◌≤◌, [], ◌∷◌, Bool, true, false, refl, sym, ◌∙◌, ap, subst, arith, List}
 use Rattle.std.specs.Prelude.{if◌then◌else◌, ◌==◌, Result, Ok, Err, IfOk}
 use Rattle.std.proofs.lemmas.Bool.{eq-eqb, eqb-true, false≢true}
+use Rattle.fn_model.specs.declared.Call.{Call}
 use Rattle.fn_model.specs.declared.Kind.{Kind}
 use Rattle.fn_model.specs.declared.Kind.TheVariants as kinds
 use Rattle.fn_rows.proofs.Put.{put_here}
@@ -33,9 +34,22 @@ use Rattle.fn_core.proofs.Called.{legal_move, middle, tried, here, at, exchange_
 abbrev left_in : State → ℕ → ℕ
 left_in s p = (s.callers p).left
 
--- a pass that goes on to another position has as much left
+-- what a caller has beside its position: what is left to it, how many calls it has made, and the last of them
+abbrev Counts : Type 0
+Counts = ℕ × ℕ × Call
+
+abbrev counts_of : Caller → Counts
+counts_of caller = (caller.left, caller.made, caller.last)
+
+abbrev counts_in : State → ℕ → Counts
+counts_in s p = counts_of (s.callers p)
+
+-- a pass that goes on to another position keeps them
+goes_keeps : (s : State) (p : ℕ) (position : Position) → counts_in (goes_to s p position) p ≡ counts_in s p
+goes_keeps s p position = ap counts_of (put_here s.callers p (record (s.callers p) { position = position }) p refl)
+
 goes_left : (s : State) (p : ℕ) (position : Position) → left_in (goes_to s p position) p ≡ left_in s p
-goes_left s p position = ap (λ (c : Caller). c.left) (put_here s.callers p (record (s.callers p) { position = position }) p refl)
+goes_left s p position = ap (λ (c : Counts). c.0) (goes_keeps s p position)
 
 -- a call by itself spends its amount
 makes_left : (start : Start) (s : State) (p : ℕ) (kind : Kind) (amount : ℕ) → amount ≤ left_in s p → left_in (makes start s p kind amount) p + amount ≡ left_in s p
@@ -44,45 +58,45 @@ makes_left start s p kind amount le =
     omega (arith, spent, le)
 
 -- the steps that differ by the pass's position
-applied_left : (start : Start) (s : State) (p weight : ℕ) (position : Position) → left_in (applied_by start s p weight position) p ≡ left_in s p
-applied_left start s p weight Resting = refl
-applied_left start s p weight (Trying word) = refl
-applied_left start s p weight (Climbing kind level) = refl
-applied_left start s p weight (Deciding kind level word) = refl
+applied_keep : (start : Start) (s : State) (p weight : ℕ) (position : Position) → counts_in (applied_by start s p weight position) p ≡ counts_in s p
+applied_keep start s p weight Resting = refl
+applied_keep start s p weight (Trying word) = refl
+applied_keep start s p weight (Climbing kind level) = refl
+applied_keep start s p weight (Deciding kind level word) = refl
 
-filled_left : (start : Start) (s : State) (p row : ℕ) (field : Field) (position : Position) → left_in (filled_by start s p row field position) p ≡ left_in s p
-filled_left start s p row field Resting = refl
-filled_left start s p row field (Trying word) = refl
-filled_left start s p row field (Climbing kind level) = refl
-filled_left start s p row field (Deciding kind level word) = refl
+filled_keep : (start : Start) (s : State) (p row : ℕ) (field : Field) (position : Position) → counts_in (filled_by start s p row field position) p ≡ counts_in s p
+filled_keep start s p row field Resting = refl
+filled_keep start s p row field (Trying word) = refl
+filled_keep start s p row field (Climbing kind level) = refl
+filled_keep start s p row field (Deciding kind level word) = refl
 
-peeked_left : (start : Start) (s : State) (p : ℕ) (position : Position) → left_in (peeked_by start s p position) p ≡ left_in s p
-peeked_left start s p Resting = refl
-peeked_left start s p (Trying word) = refl
-peeked_left start s p (Climbing kind level) = refl
-peeked_left start s p (Deciding kind level word) = refl
+peeked_keep : (start : Start) (s : State) (p : ℕ) (position : Position) → counts_in (peeked_by start s p position) p ≡ counts_in s p
+peeked_keep start s p Resting = refl
+peeked_keep start s p (Trying word) = refl
+peeked_keep start s p (Climbing kind level) = refl
+peeked_keep start s p (Deciding kind level word) = refl
 
-loaded_left : (s : State) (p : ℕ) (position : Position) → left_in (loaded_by s p position) p ≡ left_in s p
-loaded_left s p Resting = goes_left s p (Trying s.main)
-loaded_left s p (Trying word) = goes_left s p (Trying s.main)
-loaded_left s p (Climbing kind level) = goes_left s p (Deciding kind level s.main)
-loaded_left s p (Deciding kind level word) = goes_left s p (Trying s.main)
+loaded_keep : (s : State) (p : ℕ) (position : Position) → counts_in (loaded_by s p position) p ≡ counts_in s p
+loaded_keep s p Resting = goes_keeps s p (Trying s.main)
+loaded_keep s p (Trying word) = goes_keeps s p (Trying s.main)
+loaded_keep s p (Climbing kind level) = goes_keeps s p (Deciding kind level s.main)
+loaded_keep s p (Deciding kind level word) = goes_keeps s p (Trying s.main)
 
-left_either : (test : Bool) (won lost : State) (p left : ℕ) → left_in won p ≡ left → left_in lost p ≡ left → left_in (if test then won else lost) p ≡ left
-left_either true won lost p left a b = a
-left_either false won lost p left a b = b
+keep_either : (test : Bool) (won lost : State) (p : ℕ) (counts : Counts) → counts_in won p ≡ counts → counts_in lost p ≡ counts → counts_in (if test then won else lost) p ≡ counts
+keep_either true won lost p counts a b = a
+keep_either false won lost p counts a b = b
 
-decided_left : (start : Start) (s : State) (p : ℕ) (kind : Kind) (amount level word : ℕ) → left_in (exchanged_by start s p kind amount (Deciding kind level word)) p ≡ left_in s p
-decided_left start s p kind amount level word =
-    left_either (s.main == word) (goes_to (applies start s p kind level amount) p (Climbing kind level)) (goes_to s p (Climbing kind level)) p (left_in s p)
-    (goes_left (applies start s p kind level amount) p (Climbing kind level)) (goes_left s p (Climbing kind level))
+decided_keep : (start : Start) (s : State) (p : ℕ) (kind : Kind) (amount level word : ℕ) → counts_in (exchanged_by start s p kind amount (Deciding kind level word)) p ≡ counts_in s p
+decided_keep start s p kind amount level word =
+    keep_either (s.main == word) (goes_to (applies start s p kind level amount) p (Climbing kind level)) (goes_to s p (Climbing kind level)) p (counts_in s p)
+    (goes_keeps (applies start s p kind level amount) p (Climbing kind level)) (goes_keeps s p (Climbing kind level))
 
-leaves_left : (start : Start) (s : State) (p : ℕ) (kind : Kind) (level : ℕ) → left_in (leaves start s p kind level) p ≡ left_in s p
-leaves_left start s p kind zero = refl
-leaves_left start s p kind (suc zero) = goes_left (local start s kind 1 p (λ m. local_step.Leave m)) p Resting
-leaves_left start s p kind (suc (suc below)) =
+leaves_keep : (start : Start) (s : State) (p : ℕ) (kind : Kind) (level : ℕ) → counts_in (leaves start s p kind level) p ≡ counts_in s p
+leaves_keep start s p kind zero = refl
+leaves_keep start s p kind (suc zero) = goes_keeps (local start s kind 1 p (λ m. local_step.Leave m)) p Resting
+leaves_keep start s p kind (suc (suc below)) =
     let b : ℕ = reply_of start.cap kind (stage start s kind (suc (suc below)) p) in
-    goes_left (local start (local start s kind (suc (suc below)) p (λ m. local_step.Leave m)) kind (suc below) p (λ m. local_step.Hand_base m b)) p (Climbing kind (suc below))
+    goes_keeps (local start (local start s kind (suc (suc below)) p (λ m. local_step.Leave m)) kind (suc below) p (λ m. local_step.Hand_base m b)) p (Climbing kind (suc below))
 
 module _ (start : Start) (ok : IsStart start) (s : State) (w : Whole start s) (c : IsCounted start s) (o : Owned start s) (p : ℕ) (range : p < start.shape.passes) (u : IsUnderway start s p) where
   -- a pass with a call underway doesn't rest
@@ -90,37 +104,37 @@ module _ (start : Start) (ok : IsStart start) (s : State) (w : Whole start s) (c
   rests_not is = out_idle start ok s w c o p range (rests_out start ok s w p range is) u
 
   -- a call that is underway has arrived at its leaf
-  arrives_left : (kind : Kind) (level weight : ℕ) → May start s p (Arrive kind level weight) → left_in (arrives start s p kind level weight) p ≡ left_in s p
-  arrives_left kind zero weight may = refl
-  arrives_left kind (suc zero) weight may =
+  arrives_keep : (kind : Kind) (level weight : ℕ) → May start s p (Arrive kind level weight) → counts_in (arrives start s p kind level weight) p ≡ counts_in s p
+  arrives_keep kind zero weight may = refl
+  arrives_keep kind (suc zero) weight may =
       let up = climbing start ok s w p kind 1 may.0.0 in
       absurd (elim (kind_cases u.0 kind) [
         | inl e ↦ false≢true (sym (ap has_come (ap (λ (k : Kind). stage start s k 1 p) e ∙ may.0.1.1)) ∙ u.1)
         | inr ne ↦ false≢true (sym (ap has_come (up.other u.0 1 ne)) ∙ u.1)
       ])
-  arrives_left kind (suc (suc below)) weight may = refl
+  arrives_keep kind (suc (suc below)) weight may = refl
 
-  -- no step of a call that is underway spends
-  pub moves_left : (step : Move) → May start s p step → left_in (moves start s p step) p ≡ left_in s p
-  moves_left (Scan kind level other) may = refl
-  moves_left (See kind level) may = goes_left (local start s kind level p (λ m. local_step.See m)) p (Climbing kind level)
-  moves_left (Announce kind level) may = refl
-  moves_left (Arrive kind level weight) may = arrives_left kind level weight may
-  moves_left (Look kind level) may = refl
-  moves_left (Close kind level) may = refl
-  moves_left (Apply weight) may = applied_left start s p weight (s.callers p).position
-  moves_left (Head kind level) may = refl
-  moves_left (Fill row field) may = filled_left start s p row field (s.callers p).position
-  moves_left (Point kind level row) may = refl
-  moves_left (Publish kind level) may = refl
-  moves_left (Peek row field) may = peeked_left start s p (s.callers p).position
-  moves_left (Leave kind level) may = leaves_left start s p kind level
-  moves_left (Load purpose.Try) may = loaded_left s p (s.callers p).position
-  moves_left (Load purpose.Read) may = absurd (rests_not may)
-  moves_left (Exchange kind amount) (inl may) = absurd (out_idle start ok s w c o p range (subst (FitsAt start s p) may.1 (w.fits p)) u)
-  moves_left (Exchange kind amount) (inr may) = subst (λ (x : Position). left_in (exchanged_by start s p kind amount x) p ≡ left_in s p) (sym may.2) (decided_left start s p kind amount may.0 may.1)
-  moves_left (Direct amount) may = absurd (rests_not may.0)
-  moves_left Glance may = refl
+  -- no step of a call that is underway spends or makes a call
+  pub moves_keep : (step : Move) → May start s p step → counts_in (moves start s p step) p ≡ counts_in s p
+  moves_keep (Scan kind level other) may = refl
+  moves_keep (See kind level) may = goes_keeps (local start s kind level p (λ m. local_step.See m)) p (Climbing kind level)
+  moves_keep (Announce kind level) may = refl
+  moves_keep (Arrive kind level weight) may = arrives_keep kind level weight may
+  moves_keep (Look kind level) may = refl
+  moves_keep (Close kind level) may = refl
+  moves_keep (Apply weight) may = applied_keep start s p weight (s.callers p).position
+  moves_keep (Head kind level) may = refl
+  moves_keep (Fill row field) may = filled_keep start s p row field (s.callers p).position
+  moves_keep (Point kind level row) may = refl
+  moves_keep (Publish kind level) may = refl
+  moves_keep (Peek row field) may = peeked_keep start s p (s.callers p).position
+  moves_keep (Leave kind level) may = leaves_keep start s p kind level
+  moves_keep (Load purpose.Try) may = loaded_keep s p (s.callers p).position
+  moves_keep (Load purpose.Read) may = absurd (rests_not may)
+  moves_keep (Exchange kind amount) (inl may) = absurd (out_idle start ok s w c o p range (subst (FitsAt start s p) may.1 (w.fits p)) u)
+  moves_keep (Exchange kind amount) (inr may) = subst (λ (x : Position). counts_in (exchanged_by start s p kind amount x) p ≡ counts_in s p) (sym may.2) (decided_keep start s p kind amount may.0 may.1)
+  moves_keep (Direct amount) may = absurd (rests_not may.0)
+  moves_keep Glance may = refl
 
 -- after another step the other passes still stand as before
 others_then : (old new last : CoreLog) (pass : ℕ) → LeavesOthers old new pass → LeavesOthers new last pass → LeavesOthers old last pass
@@ -146,13 +160,16 @@ module _ (core : CoreLog) (legal : IsLegal core) (pass : ℕ) (inside : pass < c
         λ u. subst (λ (x : State). IsUnderway core.start x q) (sym (stepped step)) (u.0, ap has_come (alone.places u.0 1).stage ∙ u.1),
       )
 
-  -- the next step of a call spends nothing
-  pub step_left : HasCall core pass → left_of (with_move core pass (next_move core.start s pass)) pass ≡ left_of core pass
-  step_left u =
+  -- the next step of a call spends nothing, and makes no call
+  pub step_keeps : HasCall core pass → counts_in (state_in (with_move core pass (next_move core.start s pass))) pass ≡ counts_in s pass
+  step_keeps u =
       let step : Move = next_move core.start s pass in
       let all = log_owned core.start legal.0 core.log (opened core.start) (opened_whole core.start legal.0) (opened_counted core.start) (opened_owned core.start) legal.1 in
-      ap (λ (x : State). left_in x pass) (stepped step)
-      ∙ moves_left core.start legal.0 s all.0 all.1 all.2 pass inside u step (calls_always_go_on core.start core.log legal.0 legal.1 pass inside u).1
+      ap (λ (x : State). counts_in x pass) (stepped step)
+      ∙ moves_keep core.start legal.0 s all.0 all.1 all.2 pass inside u step (calls_always_go_on core.start core.log legal.0 legal.1 pass inside u).1
+
+  pub step_left : HasCall core pass → left_of (with_move core pass (next_move core.start s pass)) pass ≡ left_of core pass
+  step_left u = ap (λ (c : Counts). c.0) (step_keeps u)
 
   pub step_others : HasCall core pass → LeavesOthers core (with_move core pass (next_move core.start s pass)) pass
   step_others u = others_left (next_move core.start s pass) (calls_always_go_on core.start core.log legal.0 legal.1 pass inside u)
@@ -202,7 +219,7 @@ module _ (core : CoreLog) (legal : IsLegal core) (pass : ℕ) (inside : pass < c
   add_leaves amount spend false low = two_leave kinds.Add amount (inl refl) spend
 
   -- a call by itself spends its amount, and leaves the other passes alone
-  own_leaves : (kind : Kind) (amount : ℕ) → MayOwn core pass kind amount → Leaves core (with_moves core pass (own_moves core.start.cap kind amount)) pass amount
+  pub own_leaves : (kind : Kind) (amount : ℕ) → MayOwn core pass kind amount → Leaves core (with_moves core pass (own_moves core.start.cap kind amount)) pass amount
   own_leaves kinds.Read amount none = subst (λ (a : ℕ). Leaves core (with_move core pass (Load purpose.Read)) pass a) (sym none) (one_leaves (Load purpose.Read) kinds.Read 0 refl (omega arith) (inside, idle))
   own_leaves kinds.Add amount spend = add_leaves amount spend (core.start.cap == no_cap) refl
   own_leaves kinds.Sub amount spend = two_leave kinds.Sub amount (inr refl) spend

@@ -74,3 +74,4 @@ pub mod Left
 pub mod OwnRows
 pub mod HandRows
 pub mod Entered
+pub mod Orders

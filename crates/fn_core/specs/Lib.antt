@@ -17,3 +17,4 @@ pub mod Calls
 pub mod Polls
 pub mod Opening
 pub mod Entries
+pub mod Orders

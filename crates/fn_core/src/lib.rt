@@ -6,6 +6,7 @@ ghost use Rattle.fn_core.specs.Laws.{RowsAreLawful, RowsHaveNames, FreeRowsStay,
 ghost use Rattle.fn_core.specs.Laws.{EventsAreLocal, GuardsStay, NextIsOwn, EventsAreSteps, PositionsFit, CallsAlwaysGoOn, StepsRunOut, CallsAreShort, OthersCostNothing};
 ghost use Rattle.fn_core.specs.Trees.{TreesStand, OneStepAnEvent};
 ghost use Rattle.fn_core.specs.Entries.{EntriesStay, NoCallEntersTwice, DirectCallsAreAlone, FunnelledCallsAreBatched};
+ghost use Rattle.fn_core.specs.Orders.{LogsArePartedAndJoined, RunsGoOn, CallsAreOfPasses, RestingPassesHaveNoCall, StepsLeave, OwnCallsLeave, BeginningsLeave, FaultlessStartsAreStarts};
 ghost use Rattle.fn_core.specs.Polls.{StepsFollow, PollsAreShort};
 ghost use Rattle.fn_core.specs.After.{StepsTell, WordsAreFound};
 
@@ -180,4 +181,20 @@ pub fn calls_go_on()
     ensures others { OthersCostNothing }
     ensures follow { StepsFollow }
     ensures polls { PollsAreShort }
+{}
+
+/// A legal log is legal in its parts, and goes on from the state that its first part leaves; each call in its history is of a pass of the funnel, which has none underway while it rests.
+pub fn logs_go_on()
+    ensures parts { LogsArePartedAndJoined }
+    ensures runs { RunsGoOn }
+    ensures passes { CallsAreOfPasses }
+    ensures resting { RestingPassesHaveNoCall }
+{}
+
+/// What each order to a pass leaves of the log, of the pass's calls and allowance and of the other passes: a step of its call, a call by itself, and a beginning. Each is legal where its premises hold, from the start on.
+pub fn orders_leave()
+    ensures steps { StepsLeave }
+    ensures own { OwnCallsLeave }
+    ensures beginnings { BeginningsLeave }
+    ensures starts { FaultlessStartsAreStarts }
 {}
