@@ -3,7 +3,7 @@
 --     May pass step, Stepped old step n new      what a step needs, and what it tells that found the number n
 --     NoteView, Met old note new      a copy of what a pass had seen, and what a meeting tells
 --     AreOpened table passes, IsClosed passes book      the passes of a table that opens, and what its closing tells
-use Rattle.std.specs.Prelude.{◌≡◌, ℕ, zero, suc, ◌-◌, ◌==◌, List, [], ◌∷◌, ◌++◌, map, filter, All, slice_get, get_or, Some, Result, Ok, Err}
+use Rattle.std.specs.Prelude.{◌≡◌, ℕ, zero, suc, ◌-◌, ◌<◌, ◌==◌, List, [], ◌∷◌, ◌++◌, map, filter, All, slice_get, get_or, Some, Result, Ok, Err}
 use mathlib.Core.List.{IsPrefix}
 use Rattle.atomic_table.specs.Seated.{TableId}
 use Rattle.running.specs.Running.{upto}
@@ -14,7 +14,8 @@ use Rattle.fn_core.specs.declared.Move.{Move}
 use Rattle.fn_core.specs.declared.Move.TheVariants.{Glance}
 use Rattle.fn_core.specs.declared.Position.{Position}
 use Rattle.fn_core.specs.declared.Position.TheVariants.{Trying, Deciding}
-use Rattle.fn_core.specs.Machine.{Allowed}
+use Rattle.fn_core.specs.State.{State, opened}
+use Rattle.fn_core.specs.Machine.{Allowed, Legal, run}
 use Rattle.fn_core.specs.Words.{Own, own, name_of, word}
 use Rattle.fn_core.specs.After.{own_after}
 use Rattle.fn_core.specs.Calls.{CoreLog, state_in, IsLegal, IsIdle, left_of, with_move}
@@ -104,6 +105,17 @@ pub record Met (p : PassView) (n : NoteView) (q : PassView) : Type 0 where
 abbrev pub glances : ℕ → List Event
 glances zero = []
 glances (suc k) = event 0 Glance ∷ glances k
+
+-- they leave each state as it was, and a pass that rests
+abbrev pub GlancesLeaveStates : Type 0
+GlancesLeaveStates = (start : Start) (s : State) (k : ℕ) → run start (glances k) s ≡ s
+
+abbrev pub GlancesLeaveIdle : Type 0
+GlancesLeaveIdle = (start : Start) (pass k : ℕ) → IsIdle (record { start = start; log = glances k }) pass
+
+-- .. and the first pass may take them as soon as the funnel is open
+abbrev pub GlancesAreLegal : Type 0
+GlancesAreLegal = (start : Start) (k : ℕ) → 0 < start.shape.passes → Legal start (glances k) (opened start)
 
 -- a pass of a table that opens, at which the first pass takes a Glance for each other
 abbrev pub fresh : TableView → ℕ → PassView

@@ -17,6 +17,7 @@ mod tally;
 mod words;
 
 ghost use Rattle.running.specs.Machine.{Laws};
+ghost use Rattle.fn_table.specs.Seen.{GlancesLeaveStates, GlancesLeaveIdle, GlancesAreLegal};
 ghost use Rattle.fn_table.specs.Funnel.{funnel, LogsAreLegal, GuardsAreOwn, AdditionsFit, StepsAreTold};
 
 pub use book::Book;
@@ -35,6 +36,13 @@ pub fn funnel_is_a_machine()
     ensures guards_are_own { GuardsAreOwn }
     ensures additions_fit { AdditionsFit }
     ensures steps_are_told { StepsAreTold }
+{}
+
+/// A table opens with glances of its first pass alone, which change nothing: its passes rest, and nothing has entered the main word.
+pub fn glances_change_nothing()
+    ensures states { GlancesLeaveStates }
+    ensures idle { GlancesLeaveIdle }
+    ensures legal { GlancesAreLegal }
 {}
 
 #[cfg(test)]

@@ -19,7 +19,7 @@ use Rattle.fn_core.specs.State.{State, opened, history_in}
 use Rattle.fn_core.specs.Machine.{Legal, run}
 use Rattle.fn_core.specs.Laws.{HasReply}
 use Rattle.fn_core.specs.Calls.{CoreLog, calls_in, IsLegal}
-use Rattle.fn_core.proofs.Follows.{legal_parts, run_parts}
+use Rattle.fn_core.proofs.Orders.{logs_are_parted_and_joined, runs_go_on}
 use Rattle.fn_core.proofs.Grows.{histories_grow}
 use Rattle.std.proofs.lemmas.List.{length-append, get_or_append_left}
 use Rattle.fn_core.specs.declared.Move.TheVariants.{Glance}
@@ -129,10 +129,10 @@ pub reply_later : (start : Start) (first log : List Event) (call : Call) (n : �
 reply_later start first log call n legal longer (more, whole) has =
     let old : CoreLog = record { start = start; log = first } in
     let past : List Call = calls_in old in
-    let parts = legal_parts start first more (opened start) (subst (λ (l : List Event). Legal start l (opened start)) (sym whole) longer.1) in
+    let parts = (logs_are_parted_and_joined start first more (opened start)).0 (subst (λ (l : List Event). Legal start l (opened start)) (sym whole) longer.1) in
     let further = histories_grow start first legal.0 legal.1 more parts.1 in
     let there : history_in start (run start log (opened start)) ≡ past ++ further.0 =
-    ap (λ (l : List Event). history_in start (run start l (opened start))) (sym whole) ∙ ap (λ (s : State). history_in start s) (run_parts start first more (opened start)) ∙ further.1 in
+    ap (λ (l : List Event). history_in start (run start l (opened start))) (sym whole) ∙ ap (λ (s : State). history_in start s) (runs_go_on start first more (opened start)) ∙ further.1 in
     let stays = reply_stays start.cap start.opening call.pass call.number past further.0 has.0 has.1 in
     subst (λ (calls : List Call). HasReply start calls call n) (sym there)
     (has.0, stays.0, (let size = length-append past further.0 in let within = has.2 in omega arith), get_or_append_left past further.0 call has.0 has.2 ∙ has.3, stays.1 ∙ has.4)
@@ -290,7 +290,7 @@ module _ (workers : ℕ) (caps openings : List ℕ) (rows : List Row) (pool : Po
       no_rows : (worker : ℕ) → workers ≤ worker → own worker (calls_in book) ≡ calls_from 0 (rows_of worker tenant rows)
       no_rows worker above =
           let passes : book.start.shape.passes ≡ workers = ap (λ (s : Start). s.shape.passes) closes.begins ∙ opened_so.has_shape.0 in
-          let none : own worker (calls_in book) ≡ [] = none_outside book.start closes.closed.legal.0 worker (omega (arith, passes, above)) book.log closes.closed.legal.1 in
+          let none : own worker (calls_in book) ≡ [] = none_outside book closes.closed.legal worker (omega (arith, passes, above)) in
           let empty : of_worker worker rows ≡ [] = none_from workers rows (workers_there workers (length caps) rows sound.sound) worker above in
           none ∙ sym (ap (calls_from 0) (sym (rows_own worker tenant rows) ∙ ap (rows_of worker tenant) empty))
 

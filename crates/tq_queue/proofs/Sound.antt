@@ -16,9 +16,8 @@ use Rattle.fn_core.specs.declared.Event as funnel
 use Rattle.fn_core.specs.declared.Move.TheVariants.{Glance}
 use Rattle.fn_core.specs.State.{opened}
 use Rattle.fn_core.specs.Calls.{CoreLog, calls_in, state_in, IsLegal}
-use Rattle.fn_core.proofs.Counted.{opened_counted, log_counted}
 use Rattle.fn_core.proofs.Grows.{replies_are_bounded}
-use Rattle.fn_core.proofs.Log.{opened_whole}
+use Rattle.fn_core.proofs.Orders.{calls_are_of_passes}
 use Rattle.fn_table.specs.Seen.{TableView, PassView}
 use Rattle.tq_cells.specs.declared.entry.Entry.{Entry}
 use Rattle.tq_cells.specs.declared.entry.Entry.TheVariants as entries
@@ -61,11 +60,9 @@ range_answered P cap v (c ∷ calls) all = All-cons (λ (a : Answered). P a.call
 book_range : (passes first : ℕ) (book : CoreLog) → IsLegal book → Begins passes first book.start → All (λ (a : Answered). a.call.pass < passes) (book_answers book)
 unfolding book_answers
 book_range passes first book legal b =
-    let all = log_counted book.start legal.0 book.log (opened book.start) (opened_whole book.start legal.0) (opened_counted book.start) legal.1 in
-    let each = all.1.each in
     let P : Call → Type 0 = λ call. call.pass < book.start.shape.passes in
     subst (λ (n : ℕ). All (λ (a : Answered). a.call.pass < n) (book_answers book)) b.shape.0
-    (range_answered P book.start.cap book.start.opening (calls_in book) (All-history P (state_in book).arrivals book.start.shape.levels (state_in book).steps each.arrivals each.main))
+    (range_answered P book.start.cap book.start.opening (calls_in book) (calls_are_of_passes book.start book.log legal.0 legal.1))
 
 -- a pass's answers in the book are those that it has been told
 book_own : (t : TableView) (ps : List PassView) (book : CoreLog) → HasClosed t ps book → (k : ℕ) (p : PassView) → slice_get ps k ≡ Some p → p.seen.start ≡ t.start → answers_of p.number (book_answers book) ≡ own_answers p

@@ -14,8 +14,8 @@ use Rattle.fn_core.specs.declared.Event.{Event}
 use Rattle.fn_core.specs.State.{State, opened, history_in}
 use Rattle.fn_core.specs.Machine.{Legal, run}
 use Rattle.fn_core.specs.Calls.{CoreLog, calls_in, IsLegal}
-use Rattle.fn_core.proofs.Follows.{legal_parts, run_parts}
 use Rattle.fn_core.proofs.Grows.{histories_grow}
+use Rattle.fn_core.proofs.Orders.{logs_are_parted_and_joined, runs_go_on}
 use Rattle.fn_table.specs.Seen.{PassView}
 use Rattle.fn_direct.specs.Called.{call_of}
 use Rattle.fn_funnel.specs.declared.waiting.Added.{Added}
@@ -33,9 +33,9 @@ use Rattle.tq_queue.proofs.Growing.{answers_stay, answers_push}
 grown_log : (start : Start) (first log : List Event) → (let core : CoreLog = record { start = start; log = log } in IsLegal core) → IsPrefix first log
     → (more : List Call) × ((let now : CoreLog = record { start = start; log = log } in calls_in now) ≡ (let was : CoreLog = record { start = start; log = first } in calls_in was) ++ more)
 grown_log start first log legal begins =
-    let parts = legal_parts start first begins.0 (opened start) (subst (λ (l : List Event). Legal start l (opened start)) (sym begins.1) legal.1) in
+    let parts = (logs_are_parted_and_joined start first begins.0 (opened start)).0 (subst (λ (l : List Event). Legal start l (opened start)) (sym begins.1) legal.1) in
     let further = histories_grow start first legal.0 parts.0 begins.0 parts.1 in
-    (further.0, ap (λ (l : List Event). history_in start (run start l (opened start))) (sym begins.1) ∙ ap (λ (s : State). history_in start s) (run_parts start first begins.0 (opened start)) ∙ further.1)
+    (further.0, ap (λ (l : List Event). history_in start (run start l (opened start))) (sym begins.1) ∙ ap (λ (s : State). history_in start s) (runs_go_on start first begins.0 (opened start)) ∙ further.1)
 
 pub grown : (old new : CoreLog) → new.start ≡ old.start → IsLegal new → IsPrefix old.log new.log → (more : List Call) × (calls_in new ≡ calls_in old ++ more)
 grown old new same legal begins =
