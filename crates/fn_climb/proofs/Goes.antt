@@ -2,7 +2,7 @@
 use Rattle.std.proofs.Common.{◌≡◌, ◌≢◌, inl, inr, ℕ, ◌-◌, ◌<◌, ◌≤◌, Bool, true, false, None, length, set, get_or, refl, sym, ap, ◌∙◌, arith}
 use Rattle.std.specs.Prelude.{◌==◌, ◌&&◌, if◌then◌else◌, nat_lt}
 use Rattle.std.proofs.lemmas.Bool.{cases_eq, eq-eqb, ne_eqb, lt-ltb, le-ltb, false≢true}
-use Rattle.std.proofs.lemmas.List.{get_or-set_same, get_or-set_other, length-set}
+use Rattle.std.proofs.lemmas.List.{get_or-set_same, get_or-set_other, length-set, set-get_or}
 use Rattle.fn_model.specs.declared.Kind.{Kind}
 use Rattle.fn_rows.specs.declared.Stage.{Stage}
 use Rattle.fn_rows.specs.declared.Stage.TheVariants.{Out, Saw, Told, Waiting, Lead, Late, Shut, Based, Headed, FilledLo, FilledBase, Filled, Pointed, At, Over, Hit, Got}
@@ -153,3 +153,10 @@ leads_now at n more same = ap (λ (b : Bool). if b then Waiting at else (if at =
 
 pub late_now : (at n : ℕ) → at ≤ n → at ≢ n → looked at n ≡ Late at
 late_now at n more other = ap (λ (b : Bool). if b then Waiting at else (if at == n then Lead at else Late at)) (le-ltb n at more) ∙ ap (λ (b : Bool). if b then Lead at else Late at) (ne_eqb at n other)
+
+-- a call that goes on to where it stands has forgotten its word, and is the same where it had none
+pub free_again : (c : Course) → at_stage c c.level (held_at c c.level) ≡ record c { word = None }
+free_again c = λ i. record c { word = None; stages = set-get_or c.stages (c.level - 1) Out i }
+
+pub stays_put : (c : Course) → c.word ≡ None → at_stage c c.level (held_at c c.level) ≡ c
+stays_put c free = free_again c ∙ (λ i. record c { word = sym free i })

@@ -3,6 +3,7 @@
 --     IsLater pass after      the same pass, which has seen more
 --     Replied pass reply      what holds of a reply besides
 --     Went pass told after      the pass took the next step of its call, which told this
+--     Advanced pass told after course      .. and its course has kept up
 use Rattle.std.specs.Prelude.{◌≡◌, ◌+◌, ◌<◌, ◌≤◌, ℕ, List, Some, length, sum}
 use mathlib.Core.List.{IsPrefix}
 use Rattle.fn_core.specs.declared.Move.{Move}
@@ -12,6 +13,8 @@ use Rattle.fn_core.specs.declared.Event.{Event}
 use Rattle.fn_model.specs.Calls.{place}
 use Rattle.fn_core.specs.Calls.{CoreLog, state_in, calls_in, IsLegal, HasCall, step_answer, Follows, HasFewLeft}
 use Rattle.fn_table.specs.Seen.{PassView, Stepped, own_of, with_log}
+use Rattle.fn_climb.specs.declared.course.Course.{Course}
+use Rattle.fn_climb.specs.Course.{Holds}
 use Rattle.fn_climb.specs.Next.{IsNext}
 use Rattle.fn_climb.specs.declared.pending.Step.{Step}
 use Rattle.fn_climb.specs.declared.pending.Step.TheVariants.{Going, Ready, NotYet}
@@ -62,3 +65,12 @@ abbrev pub StepAnswers : PassView → Step → Type 0
 StepAnswers p (Going q) = Went p told.Going q
 StepAnswers p (Ready q reply) = Went p (told.Ready reply) q
 StepAnswers p (NotYet q why) = Went p (told.NotYet why) q
+
+-- a call that hasn't ended is underway still, and this is how far it has come
+abbrev pub HoldsStill : CoreStep → PassView → Course → Type 0
+HoldsStill (told.Ready reply) q c = Unit {0}
+HoldsStill _ q c = Holds q c
+
+-- the pass took the next step of its call, which told this, and its course has kept up
+abbrev pub Advanced : PassView → CoreStep → PassView → Course → Type 0
+Advanced p told q c = Went p told q × HoldsStill told q c

@@ -13,13 +13,13 @@ use fn_table::{
 };
 
 /// Takes the step by which a call goes on at its level, and gives the stage to which it leads.
-pub fn go_on(table: &FunnelTable, pass: &mut Pass, course: Course, stage: Stage) -> Stage
+pub fn go_on(table: &FunnelTable, pass: &mut Pass, course: &Course, stage: Stage) -> Stage
     requires together { IsOf table.now pass.old }
-    requires holds { Holds pass.old course }
-    requires free { course.word ≡ None }
-    requires there { held_at course course.level ≡ stage }
+    requires holds { Holds pass.old course.now }
+    requires free { course.now.word ≡ None }
+    requires there { held_at course.now course.now.level ≡ stage }
     requires goes_on { goes_on stage ≡ true }
-    ensures { Moved pass.old course result pass.new }
+    ensures { Moved pass.old course.now result pass.new }
 {
     let (kind, level) = (course.kind, course.level);
     match stage {
@@ -45,13 +45,13 @@ pub fn go_on(table: &FunnelTable, pass: &mut Pass, course: Course, stage: Stage)
 }
 
 // Takes the next step of a call that fills its row, or walks along rows.
-fn fill_row(table: &FunnelTable, pass: &mut Pass, course: Course, stage: Stage) -> Stage
+fn fill_row(table: &FunnelTable, pass: &mut Pass, course: &Course, stage: Stage) -> Stage
     requires together { IsOf table.now pass.old }
-    requires holds { Holds pass.old course }
-    requires free { course.word ≡ None }
-    requires there { held_at course course.level ≡ stage }
+    requires holds { Holds pass.old course.now }
+    requires free { course.now.word ≡ None }
+    requires there { held_at course.now course.now.level ≡ stage }
     requires has_row { has_row stage ≡ true }
-    ensures { Moved pass.old course result pass.new }
+    ensures { Moved pass.old course.now result pass.new }
 {
     let (shape, kind, level) = (table.shape(), course.kind, course.level);
     let number = pass.number();
@@ -88,13 +88,13 @@ fn fill_row(table: &FunnelTable, pass: &mut Pass, course: Course, stage: Stage) 
 }
 
 // Takes the next step of a late call, which walks along the rows to the one of its batch.
-fn walk(table: &FunnelTable, pass: &mut Pass, course: Course, stage: Stage) -> Stage
+fn walk(table: &FunnelTable, pass: &mut Pass, course: &Course, stage: Stage) -> Stage
     requires together { IsOf table.now pass.old }
-    requires holds { Holds pass.old course }
-    requires free { course.word ≡ None }
-    requires there { held_at course course.level ≡ stage }
+    requires holds { Holds pass.old course.now }
+    requires free { course.now.word ≡ None }
+    requires there { held_at course.now course.now.level ≡ stage }
     requires walks { walks stage ≡ true }
-    ensures { Moved pass.old course result pass.new }
+    ensures { Moved pass.old course.now result pass.new }
 {
     match stage {
         Stage::At(at, row) => {
@@ -118,13 +118,13 @@ fn walk(table: &FunnelTable, pass: &mut Pass, course: Course, stage: Stage) -> S
 }
 
 // Loads a field of the row in hand.
-fn peek_at(table: &FunnelTable, pass: &mut Pass, course: Course, row: u64, field: Field) -> u64
+fn peek_at(table: &FunnelTable, pass: &mut Pass, course: &Course, row: u64, field: Field) -> u64
     requires together { IsOf table.now pass.old }
-    requires holds { Holds pass.old course }
-    requires free { course.word ≡ None }
-    requires in_hand { row_in_hand (held_at course course.level) ≡ Some row }
-    requires may { May pass.old (peek_of pass.old course row field) }
-    ensures { Stepped pass.old (peek_of pass.old course row field) result pass.new }
+    requires holds { Holds pass.old course.now }
+    requires free { course.now.word ≡ None }
+    requires in_hand { row_in_hand (held_at course.now course.now.level) ≡ Some row }
+    requires may { May pass.old (peek_of pass.old course.now row field) }
+    ensures { Stepped pass.old (peek_of pass.old course.now row field) result pass.new }
 {
     let shape = table.shape();
     let index = shape.aggregator_of(pass.number(), course.level);

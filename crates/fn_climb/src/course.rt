@@ -19,19 +19,19 @@ pub struct Course {
 
 impl Course {
     /// Where the call stands at a level.
-    pub fn held_at(self, level: u32) -> Stage
+    pub fn held_at(&self, level: u32) -> Stage
         requires low { 1 ≤ level }
         requires high { level ≤ 3 }
-        ensures { result ≡ held_at self level }
+        ensures { result ≡ held_at self.now level }
     {
         self.stages[(level - 1) as usize]
     }
 
     /// The weight of the batch that the call has closed at a level.
-    pub fn weight_at(self, level: u32) -> u64
+    pub fn weight_at(&self, level: u32) -> u64
         requires low { 1 ≤ level }
         requires high { level ≤ 3 }
-        ensures { result ≡ hi_of (held_at self level) - lo_of (held_at self level) }
+        ensures { result ≡ hi_of (held_at self.now level) - lo_of (held_at self.now level) }
     {
         match self.held_at(level) {
             Stage::Shut(at, hi) => hi.saturating_sub(at),
@@ -40,10 +40,10 @@ impl Course {
     }
 
     /// The weight of the batch that the call has closed one level below its own.
-    pub fn weight_below(self) -> u64
-        requires low { 1 ≤ self.level }
-        requires high { self.level ≤ 3 }
-        ensures { result ≡ weight_below self }
+    pub fn weight_below(&self) -> u64
+        requires low { 1 ≤ self.now.level }
+        requires high { self.now.level ≤ 3 }
+        ensures { result ≡ weight_below self.now }
     {
         if self.level == 1 {
             0
@@ -53,31 +53,26 @@ impl Course {
     }
 
     /// The call goes on to a stage at this level.
-    pub fn goes_to(self, level: u32, stage: Stage) -> Course
+    pub fn go_to(&mut self, level: u32, stage: Stage)
         requires low { 1 ≤ level }
         requires high { level ≤ 3 }
-        ensures { result ≡ at_stage self level stage }
+        ensures { self.new ≡ at_stage self.old level stage }
     {
-        let mut stages = self.stages;
-        stages[(level - 1) as usize] = stage;
-        Course {
-            level,
-            word: None,
-            stages,
-            ..self
-        }
+        self.stages[(level - 1) as usize] = stage;
+        self.level = level;
+        self.word = None;
     }
 
     /// The call gets a base for its batch at a level, and goes on there.
-    pub fn based_at(self, level: u32, base: u64) -> Course
+    pub fn take_base(&mut self, level: u32, base: u64)
         requires low { 1 ≤ level }
         requires high { level ≤ 3 }
-        ensures { result ≡ at_stage self level (based_stage base (held_at self level)) }
+        ensures { self.new ≡ at_stage self.old level (based_stage base (held_at self.old level)) }
     {
         let stage = match self.held_at(level) {
             Stage::Shut(at, hi) => Stage::Based(at, hi, base),
             held => held,
         };
-        self.goes_to(level, stage)
+        self.go_to(level, stage);
     }
 }

@@ -7,6 +7,7 @@ mod course;
 mod pending;
 mod polling;
 mod row_words;
+mod stepping;
 
 pub use beginning::{Begun, begin};
 pub use fn_core::{Blocked, Why};

@@ -2,8 +2,9 @@
 ghost use Rattle.fn_table.specs.Seen.{IsOf};
 ghost use Rattle.fn_climb.specs.Turns.{PollAnswers};
 
-use crate::pending::{Pending, Step};
-use fn_core::Why;
+use crate::pending::Pending;
+use crate::stepping::advance;
+use fn_core::{CoreStep, Why};
 use fn_table::{FunnelTable, Pass};
 
 /// What a poll of a call answers.
@@ -20,12 +21,15 @@ impl Pending {
         requires together { IsOf table.now self }
         ensures { PollAnswers self result }
     {
-        let mut pending = self;
+        let Pending {
+            mut pass,
+            mut course,
+        } = self;
         loop {
-            match pending.step(table) {
-                Step::Going(next) => pending = next,
-                Step::Ready(pass, reply) => return Turn::Ready(pass, reply),
-                Step::NotYet(next, why) => return Turn::NotYet(next, why),
+            match advance(table, &mut pass, &mut course) {
+                CoreStep::Going => {}
+                CoreStep::Ready(reply) => return Turn::Ready(pass, reply),
+                CoreStep::NotYet(why) => return Turn::NotYet(Pending { pass, course }, why),
             }
         }
     }
