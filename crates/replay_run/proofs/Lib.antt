@@ -11,3 +11,6 @@ pub mod Outside
 pub mod Whole
 pub mod Finished
 pub mod Course
+pub mod Shifts
+pub mod Raised
+pub mod Joins
