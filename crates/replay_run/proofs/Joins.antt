@@ -150,7 +150,7 @@ module _ (workers : ℕ) (tenants : List Tenant) (t : ℕ) (tenant : Tenant) (at
 
 -- each tenant's joined history tells what its rows ask for, and each row's answer
 pub segments_join : SegmentsAreJoined
-segments_join workers trace answers books sound replayed t tenant at =
+segments_join workers trace answers books replayed t tenant at =
     let openings : List ℕ = map (λ (who : Tenant). who.opening) trace.tenants in
     let whole : together (segments trace.rows trace.cuts) ≡ trace.rows = rows_together 0 trace.rows trace.cuts in
     let opening : get_or openings t 0 ≡ tenant.opening =

@@ -14,7 +14,6 @@ use Rattle.quota_pool.specs.declared.moved.Moved.{Moved}
 use Rattle.trace_text.specs.declared.traces.Row.{Row}
 use Rattle.trace_text.specs.declared.traces.Tenant.{Tenant}
 use Rattle.trace_text.specs.Trace.{Content}
-use Rattle.trace_text.specs.SoundTrace.{IsSoundTrace}
 use Rattle.replay_run.specs.Segments.{segments, rows_of, call_after, calls_from}
 use Rattle.replay_run.specs.Replay.{IsReplay}
 
@@ -43,7 +42,7 @@ pub record IsJoined (trace : Content) (answers : List Moved) (t : ℕ) (tenant :
       → let call = call_after (take k trace.rows) row in
       (i : ℕ) × (slice_get history i ≡ Some call) × (place call.pass call.number history ≡ Some i) × (answer.before ≡ before tenant.cap tenant.opening history i)
 
--- so of every replay of a sound trace
+-- so of every replay
 abbrev pub SegmentsAreJoined : Type 0
-SegmentsAreJoined = (workers : ℕ) (trace : Content) (answers : List Moved) (books : List CoreLog) → IsSoundTrace workers trace → IsReplay workers trace answers books
+SegmentsAreJoined = (workers : ℕ) (trace : Content) (answers : List Moved) (books : List CoreLog) → IsReplay workers trace answers books
     → (t : ℕ) (tenant : Tenant) → slice_get trace.tenants t ≡ Some tenant → IsJoined trace answers t tenant (joined_at trace books t)
