@@ -1,6 +1,5 @@
 pub mod Funnel
 pub mod Seen
 pub mod Seats
-pub mod Places
 pub mod Kept
 pub mod Standing

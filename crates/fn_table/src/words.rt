@@ -1,31 +1,37 @@
 // The number of the word that each step is on.
 ghost use Rattle.std.specs.Prelude.{◌≡◌, ◌<◌};
-ghost use Rattle.fn_layout.specs.Words.{IsSlot, IsNamed, row_name, number, words};
+ghost use Rattle.fn_layout.specs.Tree.{aggregator};
+ghost use Rattle.fn_layout.specs.Words.{IsSlot, IsNamed, Value, Last, Done, row_name, number, words};
 ghost use Rattle.fn_core.specs.Words.{name_of};
-ghost use Rattle.fn_table.specs.Places.{AreWordsOf};
 
 use fn_core::Move;
 use fn_layout::{Field, Kind, Shape};
 
-/// The numbers of an aggregator's words.
-#[derive(Clone, Copy, Drop)]
-pub struct AggregatorWords {
-    pub value: u32,
-    pub last: u32,
-    pub done: u32,
+// The value of the pass's aggregator of this kind and level.
+fn value_word(shape: Shape, pass: u32, kind: Kind, level: u32) -> u32
+    requires { IsSlot shape pass kind level }
+    ensures exact { result ≡ number shape (Value kind level (aggregator shape pass level)) }
+    ensures in_range { result < words shape }
+{
+    shape.value_word(kind, level, shape.aggregator_of(pass, level))
 }
 
-// The words of the pass's aggregator of this kind and level.
-fn aggregator_words(shape: Shape, pass: u32, kind: Kind, level: u32) -> AggregatorWords
+// The word that names the row pointed to last, of the pass's aggregator of this kind and level.
+fn last_word(shape: Shape, pass: u32, kind: Kind, level: u32) -> u32
     requires { IsSlot shape pass kind level }
-    ensures { AreWordsOf shape pass kind level result }
+    ensures exact { result ≡ number shape (Last kind level (aggregator shape pass level)) }
+    ensures in_range { result < words shape }
 {
-    let index = shape.aggregator_of(pass, level);
-    AggregatorWords {
-        value: shape.value_word(kind, level, index),
-        last: shape.last_word(kind, level, index),
-        done: shape.done_word(kind, level, index),
-    }
+    shape.last_word(kind, level, shape.aggregator_of(pass, level))
+}
+
+// The word `done` of the pass's aggregator of this kind and level.
+fn done_word(shape: Shape, pass: u32, kind: Kind, level: u32) -> u32
+    requires { IsSlot shape pass kind level }
+    ensures exact { result ≡ number shape (Done kind level (aggregator shape pass level)) }
+    ensures in_range { result < words shape }
+{
+    shape.done_word(kind, level, shape.aggregator_of(pass, level))
 }
 
 // The word of a row.
@@ -46,15 +52,15 @@ pub fn word_of(shape: Shape, pass: u32, step: Move) -> u32
 {
     match step {
         Move::Scan { kind, level, other } => shape.announce_word(other, kind, level),
-        Move::See { kind, level } => aggregator_words(shape, pass, kind, level).done,
+        Move::See { kind, level } => done_word(shape, pass, kind, level),
         Move::Announce { kind, level } => shape.announce_word(pass, kind, level),
-        Move::Arrive { kind, level, .. } => aggregator_words(shape, pass, kind, level).value,
-        Move::Look { kind, level } => aggregator_words(shape, pass, kind, level).done,
-        Move::Close { kind, level } => aggregator_words(shape, pass, kind, level).value,
-        Move::Head { kind, level } => aggregator_words(shape, pass, kind, level).last,
+        Move::Arrive { kind, level, .. } => value_word(shape, pass, kind, level),
+        Move::Look { kind, level } => done_word(shape, pass, kind, level),
+        Move::Close { kind, level } => value_word(shape, pass, kind, level),
+        Move::Head { kind, level } => last_word(shape, pass, kind, level),
         Move::Fill { row, field } => row_word(shape, row, field),
-        Move::Point { kind, level, .. } => aggregator_words(shape, pass, kind, level).last,
-        Move::Publish { kind, level } => aggregator_words(shape, pass, kind, level).done,
+        Move::Point { kind, level, .. } => last_word(shape, pass, kind, level),
+        Move::Publish { kind, level } => done_word(shape, pass, kind, level),
         Move::Peek { row, field } => row_word(shape, row, field),
         Move::Leave { kind, level } => shape.announce_word(pass, kind, level),
         Move::Apply { .. }
