@@ -1,5 +1,5 @@
 -- Calls of which no subtraction meets less than its amount, and no addition stops at the cap.
-use Rattle.std.proofs.Common.{◌≡◌, ℕ, zero, suc, ◌+◌, ◌-◌, ◌≤◌, ◌<◌, List, [], ◌∷◌, Bool, true, false, cond, length, take, get_or, min, refl, sym, ap, ◌∙◌, subst, arith}
+use Rattle.std.proofs.Common.{◌≡◌, ℕ, suc, ◌+◌, ◌≤◌, ◌<◌, List, [], ◌∷◌, Bool, true, false, cond, take, refl, ap, ◌∙◌, arith}
 use Rattle.std.specs.Prelude.{All, sum_by, ◌==◌, ◌&&◌}
 use Rattle.std.proofs.lemmas.List.Elements.{All-head, All-tail}
 use Rattle.std.proofs.lemmas.List.Sums.{sum_by-cons, sum_by_more_le}
@@ -7,7 +7,7 @@ use Rattle.fn_model.specs.declared.Call.{Call}
 use Rattle.fn_model.specs.declared.Kind.{Kind}
 use Rattle.fn_model.specs.declared.Kind.TheVariants.{Add, Sub, Read}
 use Rattle.fn_model.specs.Calls.{own}
-use Rattle.fn_model.specs.Integer.{after, before, moved_amount, value}
+use Rattle.fn_model.specs.Integer.{after, moved_amount, value}
 use Rattle.fn_core.specs.declared.Start.{Start}
 use Rattle.fn_core.specs.Laws.{HasReply}
 use Rattle.trace_text.specs.declared.traces.Row.{Row}
