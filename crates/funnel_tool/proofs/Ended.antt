@@ -1,5 +1,5 @@
 -- A run of a script on a table to its end: what its book has.
-use Rattle.std.proofs.Common.{◌≡◌, ◌≢◌, ◌⊎◌, inl, inr, ℕ, zero, suc, ◌-◌, ◌<◌, ◌≤◌, Bool, false, List, [], ◌∷◌, ◌++◌, Option, Some, cond, map, length, get_or, slice_get, slice_set, flat_map, refl, sym, ◌∙◌, ap, subst, arith, append_assoc, ne_eqb}
+use Rattle.std.proofs.Common.{◌≡◌, ◌≢◌, ◌⊎◌, inl, inr, ℕ, zero, suc, ◌-◌, ◌<◌, ◌≤◌, List, [], ◌∷◌, ◌++◌, Option, Some, map, length, get_or, slice_get, slice_set, flat_map, refl, sym, ◌∙◌, ap, subst, arith, append_assoc}
 use Rattle.std.specs.Prelude.{◌==◌}
 use Rattle.std.specs.List.{All}
 use Rattle.std.proofs.lemmas.Bool.{cases_eq, false≢true}
@@ -7,25 +7,20 @@ use Rattle.std.proofs.lemmas.List.{append-nil, length-map}
 use Rattle.std.proofs.lemmas.List.Elements.{All-head, All-tail, filter-append}
 use Rattle.std.proofs.lemmas.Option.{slice_get-get_or}
 use mathlib.Core.List.{IsPrefix}
-use Rattle.running.proofs.Logs.{own_same}
 use Rattle.fn_model.specs.declared.Call.{Call}
 use Rattle.fn_model.specs.Calls.{own}
 use Rattle.fn_core.specs.declared.Event.{Event}
 use Rattle.fn_core.specs.declared.Start.{Start}
 use Rattle.fn_core.specs.declared.Move.TheVariants.{Glance}
 use Rattle.fn_core.specs.State.{State, opened, history_in}
-use Rattle.fn_core.specs.Machine.{IsStart, Legal, effect}
-use Rattle.fn_core.specs.Words.{Own}
+use Rattle.fn_core.specs.Machine.{IsStart}
 use Rattle.fn_core.specs.Laws.{IsUnderway}
 use Rattle.fn_core.specs.Calls.{CoreLog, HasCall, IsIdle, IsLegal, calls_in, state_in}
-use Rattle.fn_core.proofs.Owned.{own_calls_are_in_order}
-use Rattle.fn_table.specs.Funnel.{funnel}
-use Rattle.fn_table.specs.Seen.{TableView, PassView, AreAll, IsClosed, IsOf, events_of, fresh}
-use Rattle.fn_table.proofs.FunnelLaws.{laws}
+use Rattle.fn_table.specs.Seen.{TableView, PassView, AreAll, IsClosed, IsOf, fresh}
 use Rattle.fn_table.proofs.Glances.{glances_idle, glances_legal, glances_run}
-use Rattle.fn_table.proofs.States.{own_is, is_legal}
 use Rattle.fn_climb.specs.Steps.{IsLater}
 use Rattle.fn_direct.specs.Called.{HasMadeNone}
+use Rattle.replay_run.proofs.Outside.{none_outside}
 use Rattle.trace_text.specs.Sound.{HasPasses, IsSound}
 use Rattle.trace_text.specs.Order.{amount}
 use Rattle.trace_text.specs.declared.scripts.Order.TheVariants as order
@@ -195,27 +190,7 @@ first-know t ok k c at =
       tracks = tracks-here core [] k quiet (glances_idle t.start k n) (ap (own k) none);
     })
 
--- no call is one of a pass that isn't there
-no-events : (start : Start) (pass : ℕ) (log : List Event) (s : State) → start.shape.passes ≤ pass → Legal start log s → events_of pass log ≡ []
-no-events start pass [] s outside legal = refl
-no-events start pass (event ∷ log) s outside legal =
-    let inside : event.pass < start.shape.passes = legal.0.0 in
-    let other : (event.pass == pass) ≡ false = ne_eqb event.pass pass (λ same. omega (arith, same, inside, outside)) in
-    ap (λ (b : Bool). cond b (event ∷ events_of pass log) (events_of pass log)) other ∙ no-events start pass log (effect start s event) outside legal.1
-
-no-length : (calls : List Call) → length calls ≡ 0 → calls ≡ []
-no-length [] e = refl
-no-length (c ∷ calls) e = absurd (omega (arith, e))
-
-pub outside-none : (core : CoreLog) (pass : ℕ) → IsLegal core → core.start.shape.passes ≤ pass → own pass (calls_in core) ≡ []
-outside-none core pass legal outside =
-    let same = sym (own_is core.start core.log pass) ∙ own_same funnel core.start laws pass [] core.log (is_legal core.start core.log legal.0 legal.1) (core.log, refl) (no-events core.start pass core.log (opened core.start) outside legal.1) ∙ own_is core.start [] pass in
-    let made : ((state_in core).callers pass).made ≡ 0 = ap (λ (o : Own). o.caller.made) same in
-    no-length (own pass (calls_in core)) (elim (own_calls_are_in_order core.start core.log legal.0 legal.1 pass).1 [
-      | inl size ↦ size ∙ made
-      | inr less ↦ (let e : suc (length (own pass (calls_in core))) ≡ ((state_in core).callers pass).made = less.0 in absurd (omega (arith, e, made)))
-    ])
-
+-- no line asks for a call of a pass that isn't there
 none-asked : (passes pass : ℕ) (lines : List ScriptLine) (answers : List LineAnswer) (calls : List Call) → passes ≤ pass → All (HasPasses passes) lines → own pass (calls_made calls lines answers) ≡ own pass calls
 none-asked passes pass [] answers calls outside all = refl
 none-asked passes pass (line ∷ lines) [] calls outside all = refl
@@ -272,7 +247,7 @@ module _ (script : Script) (sound : IsSound script) (t : TableView) (opens : t.s
   made-outside pass outside =
       let same : t.start.shape.passes ≡ script.shape.passes = ap (λ (s : Start). s.shape.passes) opens in
       let book_same : book.start.shape.passes ≡ t.start.shape.passes = ap (λ (s : Start). s.shape.passes) start in
-      outside-none book pass closed.legal (omega (arith, outside, book_same)) ∙ sym (none-asked script.shape.passes pass script.lines answers [] (omega (arith, outside, same)) sound.passes)
+      none_outside book closed.legal pass (omega (arith, outside, book_same)) ∙ sym (none-asked script.shape.passes pass script.lines answers [] (omega (arith, outside, same)) sound.passes)
 
   pub is-trial : AreAll t passes → All (IsOf t) passes → IsTrial script answers book
   is-trial all together = record {

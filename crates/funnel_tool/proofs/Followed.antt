@@ -10,6 +10,7 @@ use Rattle.fn_core.specs.declared.answer.CoreStep.{CoreStep}
 use Rattle.fn_core.specs.declared.answer.CoreStep.TheVariants.{Going, Ready, NotYet}
 use Rattle.fn_core.specs.State.{Caller as Standing}
 use Rattle.fn_core.specs.Calls.{CoreLog, Follows, HasCall, IsIdle, IsLegal, calls_in}
+use Rattle.fn_core.proofs.Orders.{resting_passes_have_no_call}
 use Rattle.fn_table.specs.Seen.{PassView, own_of}
 use Rattle.fn_climb.specs.Begin.{HasBegun}
 use Rattle.fn_climb.specs.Steps.{HasSameCall, IsLater, Went}
@@ -29,7 +30,6 @@ use Rattle.funnel_tool.specs.Replies.{IsMet, asked, made_by}
 use Rattle.funnel_tool.specs.Slots.{IsRight}
 use Rattle.funnel_tool.specs.Trial.{Began, CallDone, OrderDone, StepDone, Subtracted, left_with, seen_of}
 use Rattle.funnel_tool.proofs.Advance.{tried-later}
-use Rattle.funnel_tool.proofs.Callers.{idle-none}
 use Rattle.funnel_tool.proofs.OneLine.{none-made}
 use Rattle.funnel_tool.proofs.Tracks.{Tracks, after, caller_in, grown, next-number, own-more, rests-has-all, tracks-begun, tracks-here, tracks-kept}
 
@@ -61,7 +61,7 @@ module _ (calls : List Call) (p : PassView) (was : Knows calls p.number p) where
   pub made-none : (q : PassView) → IsLater p q → IsIdle p.seen p.number → HasMadeNone p q → Knows calls p.number q
   made-none q later idle none =
       knows-by calls calls p.number p q was later
-      (tracks-here q.seen calls p.number (idle-none q.seen later.legal p.number (inside-later p q p.number later was.inside) none.idle) none.idle
+      (tracks-here q.seen calls p.number (resting_passes_have_no_call q.seen later.legal p.number (inside-later p q p.number later was.inside) none.idle) none.idle
       (none.calls ∙ rests-has-all p.seen calls p.number was.legal was.tracks idle))
 
   -- .. and one that has made a call by itself
@@ -75,7 +75,7 @@ module _ (calls : List Call) (p : PassView) (was : Knows calls p.number p) where
       let joined : own p.number (calls_in q.seen) ≡ own p.number (calls ++ call ∷ []) =
       called.joined ∙ ap (λ (x : List Call). x ++ call_of p kind n ∷ []) (rests-has-all p.seen calls p.number was.legal was.tracks idle) ∙ ap (λ (c : Call). own p.number calls ++ c ∷ []) call_is ∙ sym mine in (
         knows-by calls (calls ++ call ∷ []) p.number p q was later
-            (tracks-here q.seen (calls ++ call ∷ []) p.number (idle-none q.seen later.legal p.number (inside-later p q p.number later was.inside) called.idle) called.idle joined),
+            (tracks-here q.seen (calls ++ call ∷ []) p.number (resting_passes_have_no_call q.seen later.legal p.number (inside-later p q p.number later was.inside) called.idle) called.idle joined),
         (own p.number calls, call_of p kind n, mine ∙ ap (λ (c : Call). own p.number calls ++ c ∷ []) (sym call_is), called.met),
       )
 
@@ -93,7 +93,7 @@ module _ (calls : List Call) (p : PassView) (was : Knows calls p.number p) where
       own-more calls call p.number refl ∙ ap (λ (x : List Call). x ++ call ∷ []) (sym (rests-has-all p.seen calls p.number was.legal was.tracks idle)) ∙ ap (λ (c : Call). own p.number (calls_in p.seen) ++ c ∷ []) (sym last_is) in
       knows-by calls (calls ++ call ∷ []) p.number p q was later
       (subst (λ (x : CoreLog). Tracks x (calls ++ call ∷ []) p.number) same
-      (tracks-begun p.seen later.begins.0 (calls ++ call ∷ []) p.number was.inside (idle-none p.seen was.legal p.number was.inside idle) (subst (λ (x : CoreLog). HasCall x p.number) (sym same) here)
+      (tracks-begun p.seen later.begins.0 (calls ++ call ∷ []) p.number was.inside (resting_passes_have_no_call p.seen was.legal p.number was.inside idle) (subst (λ (x : CoreLog). HasCall x p.number) (sym same) here)
       (ap (λ (x : CoreLog). (caller_in x p.number).made) same ∙ made) (joined ∙ ap (λ (x : CoreLog). own p.number (calls_in p.seen) ++ (caller_in x p.number).last ∷ []) (sym same))))
 
   -- no call, though others have come between
@@ -110,23 +110,23 @@ module _ (calls : List Call) (p : PassView) (was : Knows calls p.number p) where
   refused-one : (q : PassView) → IsLater p q → IsIdle p.seen p.number → ((own_of q).caller ≡ (own_of p).caller) → IsIdle q.seen q.number → Knows calls p.number q
   refused-one q later idle caller rests =
       let same : caller_in q.seen p.number ≡ caller_in p.seen p.number = ap (λ (m : ℕ). caller_in q.seen m) (sym later.number) ∙ caller in
-      kept q later (ap (λ (c : Standing). c.made) same, ap (λ (c : Standing). c.last) same) (λ i. ap (λ (c : Standing). c.position) same ∙ idle) (λ u. absurd (idle-none p.seen was.legal p.number was.inside idle u))
+      kept q later (ap (λ (c : Standing). c.made) same, ap (λ (c : Standing). c.last) same) (λ i. ap (λ (c : Standing). c.position) same ∙ idle) (λ u. absurd (resting_passes_have_no_call p.seen was.legal p.number was.inside idle u))
 
   -- steps of a call
   told-one : (step : CoreStep) (q : PassView) → IsLater p q → HasCall p.seen p.number → Follows p.seen q.seen p.number step → HasSameCall p q
       → Knows calls p.number q × IsMet q.seen.start (calls_in q.seen) (own p.number calls) (told_answer step)
   told-one Going q later u follows same = (
     kept q later (ap (λ (m : ℕ). (caller_in q.seen m).made) (sym later.number) ∙ same.made, ap (λ (m : ℕ). (caller_in q.seen m).last) (sym later.number) ∙ same.last)
-        (λ idle. absurd (idle-none p.seen was.legal p.number was.inside idle u)) (λ before. follows.0),
+        (λ idle. absurd (resting_passes_have_no_call p.seen was.legal p.number was.inside idle u)) (λ before. follows.0),
     tt,
   )
   told-one (NotYet why) q later u follows same = (
     kept q later (ap (λ (m : ℕ). (caller_in q.seen m).made) (sym later.number) ∙ same.made, ap (λ (m : ℕ). (caller_in q.seen m).last) (sym later.number) ∙ same.last)
-        (λ idle. absurd (idle-none p.seen was.legal p.number was.inside idle u)) (λ before. follows),
+        (λ idle. absurd (resting_passes_have_no_call p.seen was.legal p.number was.inside idle u)) (λ before. follows),
     tt,
   )
   told-one (Ready n) q later u f same = elim was.tracks.now [
-    | inl all ↦ absurd (idle-none p.seen was.legal p.number was.inside all.0 u)
+    | inl all ↦ absurd (resting_passes_have_no_call p.seen was.legal p.number was.inside all.0 u)
     | inr one ↦
         let t = was.tracks in
         let past : CoreLog = after p.seen t.earlier in
@@ -134,7 +134,7 @@ module _ (calls : List Call) (p : PassView) (was : Knows calls p.number p) where
         let last : (caller_in q.seen p.number).last ≡ (caller_in p.seen p.number).last = ap (λ (m : ℕ). (caller_in q.seen m).last) (sym later.number) ∙ same.last in
         let joined = f.2 t.earlier t.later t.split t.quiet (made ∙ one.2) in
         let mine : own p.number calls ≡ own p.number (calls_in past) ++ (caller_in q.seen p.number).last ∷ [] = one.3 ∙ ap (λ (c : Call). own p.number (calls_in past) ++ c ∷ []) (sym last) in (
-          knows-by calls calls p.number p q was later (tracks-here q.seen calls p.number (idle-none q.seen later.legal p.number (inside-later p q p.number later was.inside) f.0) f.0 (joined ∙ sym mine)),
+          knows-by calls calls p.number p q was later (tracks-here q.seen calls p.number (resting_passes_have_no_call q.seen later.legal p.number (inside-later p q p.number later was.inside) f.0) f.0 (joined ∙ sym mine)),
           (own p.number (calls_in past), (caller_in q.seen p.number).last, mine, f.1),
         )
   ]

@@ -1,15 +1,17 @@
 -- What doing an order leaves.
-use Rattle.std.proofs.Common.{◌≡◌, ℕ, ◌+◌, ◌≤◌, List, [], ◌∷◌, ◌++◌, true, false, refl, sym, ◌∙◌, ap, arith}
+use Rattle.std.proofs.Common.{◌≡◌, ℕ, ◌+◌, ◌≤◌, List, [], ◌∷◌, ◌++◌, true, false, refl, sym, ◌∙◌, ap, arith, append_assoc}
+use Rattle.std.proofs.lemmas.List.{append-nil}
 use Rattle.fn_core.specs.declared.Move.{Move}
 use Rattle.fn_core.specs.declared.Event.{Event}
 use Rattle.fn_core.specs.declared.Position.{Position}
 use Rattle.fn_core.specs.declared.Position.TheVariants.{Resting, Trying, Climbing, Deciding}
 use Rattle.fn_core.specs.declared.answer.CoreStep.{CoreStep}
 use Rattle.fn_core.specs.declared.answer.CoreStep.TheVariants.{Going, Ready, NotYet}
-use Rattle.fn_core.specs.declared.Start.{Start}
-use Rattle.fn_core.specs.State.{State, opened}
-use Rattle.fn_core.specs.Machine.{effect, moves, run}
+use Rattle.fn_core.specs.State.{opened}
+use Rattle.fn_core.specs.Machine.{moves}
+use Rattle.fn_core.specs.Begin.{events_of}
 use Rattle.fn_core.specs.Calls.{CoreLog, Follows, HasCall, IsIdle, LeavesOthers, left_of, state_in, with_move, with_moves}
+use Rattle.fn_core.proofs.Orders.{runs_go_on}
 use Rattle.funnel_tool.specs.Play.{is_resting}
 use Rattle.funnel_tool.specs.Doing.{Leaves}
 
@@ -29,24 +31,22 @@ resting-iff (Trying word) not = refl
 resting-iff (Climbing kind level) not = refl
 resting-iff (Deciding kind level word) not = refl
 
--- steps change nothing of the start
-pub with_moves-start : (core : CoreLog) (pass : ℕ) (steps : List Move) → (with_moves core pass steps).start ≡ core.start
-with_moves-start core pass [] = refl
-with_moves-start core pass (step ∷ steps) = with_moves-start (with_move core pass step) pass steps
-
-run-append : (start : Start) (log later : List Event) (s : State) → run start (log ++ later) s ≡ run start later (run start log s)
-run-append start [] later s = refl
-run-append start (event ∷ log) later s = run-append start log later (effect start s event)
+-- several steps of a pass stand behind the log
+pub with_moves-log : (core : CoreLog) (pass : ℕ) (steps : List Move) → with_moves core pass steps ≡ record { start = core.start; log = core.log ++ events_of pass steps }
+with_moves-log core pass [] = let logged : List Event → CoreLog = λ log. record { start = core.start; log = log } in ap logged (sym (append-nil core.log))
+with_moves-log core pass (step ∷ steps) =
+    let logged : List Event → CoreLog = λ log. record { start = core.start; log = log } in
+    with_moves-log (with_move core pass step) pass steps ∙ ap logged (append_assoc core.log (record { pass = pass; step = step } ∷ []) (events_of pass steps))
 
 -- the state after one more step
 pub state_in-move : (core : CoreLog) (pass : ℕ) (move : Move) → state_in (with_move core pass move) ≡ moves core.start (state_in core) pass move
-state_in-move core pass move = run-append core.start core.log (record { pass = pass; step = move } ∷ []) (opened core.start)
+state_in-move core pass move = runs_go_on core.start core.log (record { pass = pass; step = move } ∷ []) (opened core.start)
 
 -- what a call of the core leaves
 pub leaves-by : (old new : CoreLog) (pass amount : ℕ) (steps : List Move) → new ≡ with_moves old pass steps → left_of old pass ≤ left_of new pass + amount
     → ((IsIdle new pass → ⊥) → HasCall new pass) → LeavesOthers old new pass → Leaves old new pass amount
 leaves-by old new pass amount steps taken left underway others = record {
-  start = rw taken (with_moves-start old pass steps);
+  start = ap (λ (x : CoreLog). x.start) (taken ∙ with_moves-log old pass steps);
   left = left;
   underway = underway;
   others = others;

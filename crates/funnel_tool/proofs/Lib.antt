@@ -1,5 +1,4 @@
 pub mod Advance
-pub mod Callers
 pub mod Complete
 pub mod Counts
 pub mod Ended
@@ -19,4 +18,3 @@ pub mod Tracks
 pub mod WholeRun
 pub mod DrillLine
 pub mod NeverShort
-pub mod Shares

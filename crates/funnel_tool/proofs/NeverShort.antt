@@ -1,20 +1,20 @@
 -- Calls of which no subtraction meets less than its amount, and no addition stops at the cap.
-use Rattle.std.proofs.Common.{◌≡◌, ℕ, zero, suc, ◌+◌, ◌-◌, ◌≤◌, ◌<◌, List, [], ◌∷◌, Bool, true, false, length, take, get_or, min, refl, sym, ap, ◌∙◌, subst, arith}
-use Rattle.std.specs.Prelude.{All, filter, sum_by, ◌==◌, ◌&&◌}
-use Rattle.std.proofs.lemmas.Bool.{ne_eqb}
-use Rattle.std.proofs.lemmas.List.Elements.{All-weaker}
+use Rattle.std.proofs.Common.{◌≡◌, ℕ, suc, ◌+◌, ◌≤◌, ◌<◌, List, [], ◌∷◌, Bool, true, false, cond, take, refl, ap, ◌∙◌, arith}
+use Rattle.std.specs.Prelude.{All, sum_by, ◌==◌, ◌&&◌}
+use Rattle.std.proofs.lemmas.List.Elements.{All-head, All-tail}
 use Rattle.std.proofs.lemmas.List.Sums.{sum_by-cons, sum_by_more_le}
 use Rattle.fn_model.specs.declared.Call.{Call}
 use Rattle.fn_model.specs.declared.Kind.{Kind}
 use Rattle.fn_model.specs.declared.Kind.TheVariants.{Add, Sub, Read}
 use Rattle.fn_model.specs.Calls.{own}
-use Rattle.fn_model.specs.Integer.{after, before, moved_amount, value}
-use Rattle.fn_model.specs.Order.{sum_below}
+use Rattle.fn_model.specs.Integer.{after, moved_amount, value}
 use Rattle.fn_core.specs.declared.Start.{Start}
 use Rattle.fn_core.specs.Laws.{HasReply}
 use Rattle.trace_text.specs.declared.traces.Row.{Row}
 use Rattle.replay_run.specs.Segments.{call_of, calls_from, is_of, kind_of, rows_of}
-use Rattle.funnel_tool.proofs.Shares.{filter-none, filter-same, shares-within, sum_by-shares}
+use Rattle.replay_run.specs.Work.{of_worker}
+use Rattle.replay_run.proofs.KeyedSums.{same_sums}
+use Rattle.replay_run.proofs.NoFault.{none_from, worker_of}
 
 -- what a call can add, and what it can take
 abbrev pub adds : Kind → ℕ → ℕ
@@ -78,35 +78,21 @@ and-true : (b : Bool) → (b && true) ≡ b
 and-true true = refl
 and-true false = refl
 
-and-false : (b c : Bool) → b ≡ false → (b && c) ≡ false
-and-false b c none = rw none refl
-
 -- the rows of a worker at the one tenant
-rows_of-alone : (worker : ℕ) (rows : List Row) → All (λ row. row.tenant ≡ 0) rows → rows_of worker 0 rows ≡ filter (λ row. row.worker == worker) rows
-rows_of-alone worker rows alone =
-    filter-same (is_of worker 0) (λ row. row.worker == worker) rows
-    (All-weaker (λ row. row.tenant ≡ 0) (λ row. is_of worker 0 row ≡ (row.worker == worker)) (λ row none. ap (λ n. (row.worker == worker) && (n == 0)) none ∙ and-true (row.worker == worker)) rows alone)
-
-rows_of-none : (workers worker : ℕ) (rows : List Row) → workers ≤ worker → All (λ row. row.worker < workers) rows → rows_of worker 0 rows ≡ []
-rows_of-none workers worker rows past within =
-    filter-none (is_of worker 0) rows
-    (All-weaker (λ row. row.worker < workers) (λ row. is_of worker 0 row ≡ false) (λ row less. and-false (row.worker == worker) (row.tenant == 0) (ne_eqb row.worker worker (omega arith))) rows within)
+rows_of-alone : (worker : ℕ) (rows : List Row) → All (λ row. row.tenant ≡ 0) rows → rows_of worker 0 rows ≡ of_worker worker rows
+rows_of-alone worker [] alone = refl
+rows_of-alone worker (row ∷ rows) alone =
+    let first : row.tenant ≡ 0 = All-head (λ (r : Row). r.tenant ≡ 0) row rows alone in
+    let here : is_of worker 0 row ≡ (row.worker == worker) = ap (λ n. (row.worker == worker) && (n == 0)) first ∙ and-true (row.worker == worker) in
+    ap (λ (b : Bool). cond b (row ∷ rows_of worker 0 rows) (rows_of worker 0 rows)) here
+    ∙ ap (λ (rest : List Row). cond (row.worker == worker) (row ∷ rest) rest) (rows_of-alone worker rows (All-tail (λ (r : Row). r.tenant ≡ 0) row rows alone))
 
 -- calls that are the workers' rows add up as the rows do
 pub sum_by-rows : (by : Kind → ℕ → ℕ) (workers : ℕ) (rows : List Row) (calls : List Call) → All (λ row. row.worker < workers) rows → All (λ row. row.tenant ≡ 0) rows
     → ((worker : ℕ) → own worker calls ≡ calls_from 0 (rows_of worker 0 rows)) → sum_by (by_call by) calls ≡ sum_by (by_row by) rows
 sum_by-rows by workers rows calls within alone each =
-    let passes = shares-within (λ (call : Call). call.pass) workers calls (λ worker past. each worker ∙ ap (calls_from 0) (rows_of-none workers worker rows past within)) in
-    let of_calls = sum_by-shares (by_call by) (λ (call : Call). call.pass) workers calls passes in
-    let of_rows = sum_by-shares (by_row by) (λ (row : Row). row.worker) workers rows within in
-    let same = shares-same by workers rows calls alone each in
-    of_calls ∙ same ∙ sym of_rows
-  where
-    shares-same : (by : Kind → ℕ → ℕ) (workers : ℕ) (rows : List Row) (calls : List Call) → All (λ row. row.tenant ≡ 0) rows
-        → ((worker : ℕ) → own worker calls ≡ calls_from 0 (rows_of worker 0 rows))
-        → sum_below workers (λ k. sum_by (by_call by) (filter (λ call. call.pass == k) calls)) ≡ sum_below workers (λ k. sum_by (by_row by) (filter (λ row. row.worker == k) rows))
-    shares-same by zero rows calls alone each = refl
-    shares-same by (suc n) rows calls alone each =
-        let here : sum_by (by_call by) (own n calls) ≡ sum_by (by_row by) (filter (λ row. row.worker == n) rows) =
-        ap (sum_by (by_call by)) (each n) ∙ sum_by-calls_from by 0 (rows_of n 0 rows) ∙ ap (sum_by (by_row by)) (rows_of-alone n rows alone) in
-        omega (arith, shares-same by n rows calls alone each)
+    let nobody = none_from workers rows within in
+    let same : (worker : ℕ) → sum_by (by_call by) (own worker calls) ≡ sum_by (by_row by) (of_worker worker rows) =
+    λ worker. ap (sum_by (by_call by)) (each worker) ∙ sum_by-calls_from by 0 (rows_of worker 0 rows) ∙ ap (sum_by (by_row by)) (rows_of-alone worker rows alone) in
+    let none : (worker : ℕ) → workers ≤ worker → own worker calls ≡ [] = λ worker past. each worker ∙ ap (calls_from 0) (rows_of-alone worker rows alone ∙ nobody worker past) in
+    same_sums (by_call by) (λ (call : Call). call.pass) (by_row by) worker_of calls rows same workers none nobody

@@ -7,10 +7,11 @@ use Rattle.fn_core.specs.declared.answer.CoreStep.TheVariants.{Going, Ready, Not
 use Rattle.fn_core.specs.Calls.{CoreLog, Follows, HasCall, IsLegal, left_of, state_in, step_answer, with_moves}
 use Rattle.funnel_tool.specs.declared.lines.LineAnswer.{LineAnswer}
 use Rattle.fn_core.specs.Polls.{is_going, poll_answer, poll_moves}
+use Rattle.fn_core.proofs.Polls.{steps_follow}
 use Rattle.funnel_tool.specs.Play.{told_answer}
 use Rattle.funnel_tool.specs.Doing.{Leaves}
 use Rattle.funnel_tool.proofs.Polling.{answer-end, answer-on, fewer-left, left_steps, moves-end, moves-on, stepped}
-use Rattle.funnel_tool.proofs.Orders.{Taken, step-follows, step-taken}
+use Rattle.funnel_tool.proofs.Orders.{Taken, step-taken}
 use Rattle.funnel_tool.proofs.Tracks.{Tracks, after, grown}
 
 -- one order after the other to the same pass
@@ -66,7 +67,7 @@ poll-taken (suc most) core legal pass inside calls t u enough =
     by : (told : CoreStep) → step_answer core.start (state_in core) pass ≡ told
         → (HasCall (stepped core pass) pass → left_steps (stepped core pass) pass < left_steps core pass → Polled most (stepped core pass) pass calls) → Polled (suc most) core pass calls
     by Going going rest =
-        let f : Follows core (stepped core pass) pass Going = subst (Follows core (stepped core pass) pass) going (step-follows core legal pass inside calls t u) in
+        let f : Follows core (stepped core pass) pass Going = subst (Follows core (stepped core pass) pass) going (steps_follow core pass legal inside u) in
         polled-on most core pass calls going first (rest f.0 (fewer-left core (stepped core pass) pass Going refl refl f))
     by (Ready n) is rest = polled-end most core pass calls (ap is_going is) first
     by (NotYet why) is rest = polled-end most core pass calls (ap is_going is) first

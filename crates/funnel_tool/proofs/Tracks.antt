@@ -1,5 +1,5 @@
 -- What the history has of a pass's calls, along the lines of a script.
-use Rattle.std.proofs.Common.{◌≡◌, ◌⊎◌, inl, inr, ℕ, suc, ◌<◌, List, [], ◌∷◌, ◌++◌, length, refl, sym, ◌∙◌, ap, subst, arith, append_assoc}
+use Rattle.std.proofs.Common.{◌≡◌, ◌⊎◌, inl, inr, ℕ, suc, ◌<◌, Bool, cond, List, [], ◌∷◌, ◌++◌, length, eq-eqb, refl, sym, ◌∙◌, ap, subst, arith, append_assoc}
 use Rattle.std.specs.Prelude.{◌==◌}
 use Rattle.std.proofs.lemmas.List.{append-nil, length-append}
 use Rattle.std.proofs.lemmas.List.Elements.{filter-append}
@@ -9,11 +9,10 @@ use Rattle.fn_core.specs.declared.Event.{Event}
 use Rattle.fn_core.specs.State.{Caller, State, opened, history_in}
 use Rattle.fn_core.specs.Machine.{Legal, run}
 use Rattle.fn_core.specs.Calls.{CoreLog, HasCall, IsIdle, IsLegal, calls_in, state_in}
-use Rattle.fn_core.proofs.Follows.{legal_parts, run_parts}
+use Rattle.fn_core.specs.Orders.{HasSameCalls}
 use Rattle.fn_core.proofs.Joins.{own_calls_stay}
-use Rattle.fn_core.proofs.Numbers.{own_first}
+use Rattle.fn_core.proofs.Orders.{logs_are_parted_and_joined, resting_passes_have_no_call, runs_go_on}
 use Rattle.fn_core.proofs.Owned.{own_calls_are_in_order}
-use Rattle.funnel_tool.proofs.Callers.{SameCalls, idle-none}
 
 -- the core after further events
 abbrev pub grown : CoreLog → List Event → CoreLog
@@ -44,7 +43,7 @@ pub record Tracks (core : CoreLog) (calls : List Call) (pass : ℕ) : Type 0 whe
   pub now : HasAll core (after core earlier) calls pass ⊎ LacksOne core (after core earlier) calls pass
 
 -- events that leave the pass's calls as they are
-pub tracks-kept : (core : CoreLog) (more : List Event) (calls now : List Call) (pass : ℕ) → Tracks core calls pass → SameCalls (caller_in (grown core more) pass) (caller_in core pass)
+pub tracks-kept : (core : CoreLog) (more : List Event) (calls now : List Call) (pass : ℕ) → Tracks core calls pass → HasSameCalls (caller_in (grown core more) pass) (caller_in core pass)
     → (IsIdle core pass → IsIdle (grown core more) pass) → (HasCall core pass → HasCall (grown core more) pass) → own pass now ≡ own pass calls → Tracks (grown core more) now pass
 tracks-kept core more calls now pass t same idle call own_same = record {
   earlier = t.earlier;
@@ -82,10 +81,10 @@ tracks-begun core more now pass inside quiet call made joined = record {
 pub legal-later : (core : CoreLog) (earlier later : List Event) → IsLegal core → core.log ≡ earlier ++ later
     → IsLegal (after core earlier) × Legal core.start later (state_in (after core earlier)) × (state_in core ≡ run core.start later (state_in (after core earlier)))
 legal-later core earlier later legal split =
-    let parts = legal_parts core.start earlier later (opened core.start) (subst (λ (l : List Event). Legal core.start l (opened core.start)) split legal.1) in (
+    let parts = (logs_are_parted_and_joined core.start earlier later (opened core.start)).0 (subst (λ (l : List Event). Legal core.start l (opened core.start)) split legal.1) in (
       (legal.0, parts.0),
       parts.1,
-      ap (λ (l : List Event). run core.start l (opened core.start)) split ∙ run_parts core.start earlier later (opened core.start),
+      ap (λ (l : List Event). run core.start l (opened core.start)) split ∙ runs_go_on core.start earlier later (opened core.start),
     )
 
 -- nothing has come to the calls of a pass that rests since the history had them all
@@ -100,7 +99,7 @@ all-there core calls pass legal t all =
 pub rests-has-all : (core : CoreLog) (calls : List Call) (pass : ℕ) → IsLegal core → Tracks core calls pass → IsIdle core pass → own pass (calls_in core) ≡ own pass calls
 rests-has-all core calls pass legal t idle = elim t.now [
   | inl all ↦ all-there core calls pass legal t all
-  | inr one ↦ absurd (idle-none core legal pass one.0 idle one.1)
+  | inr one ↦ absurd (resting_passes_have_no_call core legal pass one.0 idle one.1)
 ]
 
 -- so the next call of a pass has the number of its calls as its own
@@ -125,4 +124,6 @@ next-number core calls pass legal t =
 
 -- one more call of a pass
 pub own-more : (calls : List Call) (call : Call) (pass : ℕ) → call.pass ≡ pass → own pass (calls ++ call ∷ []) ≡ own pass calls ++ call ∷ []
-own-more calls call pass is = filter-append (λ c. c.pass == pass) calls (call ∷ []) ∙ ap (λ (x : List Call). own pass calls ++ x) (own_first pass call [] is)
+own-more calls call pass is =
+    let one : own pass (call ∷ []) ≡ call ∷ [] = ap (λ (b : Bool). cond b (call ∷ []) []) (eq-eqb call.pass pass is) in
+    filter-append (λ c. c.pass == pass) calls (call ∷ []) ∙ ap (λ (x : List Call). own pass calls ++ x) one

@@ -18,7 +18,7 @@ use Rattle.fn_core.specs.Calls.{CoreLog, HasCall, IsIdle, IsLegal, calls_in, sta
 use Rattle.fn_model.proofs.Lists.{has_range, none_found}
 use Rattle.fn_core.proofs.Grows.{histories_grow}
 use Rattle.fn_core.proofs.Laws.{calls_stand_once, main_is_value}
-use Rattle.fn_core.proofs.Opened.{start_is}
+use Rattle.fn_core.proofs.Orders.{faultless_starts_are_starts}
 use Rattle.trace_text.specs.Order.{amount}
 use Rattle.trace_text.specs.Sound.{HasAmount, HasPasses, IsSound, allowances}
 use Rattle.trace_text.proofs.Allowed.{add_up, allowances-count}
@@ -211,7 +211,7 @@ opened-stands script sound =
     let each : length (allowances script.lines script.shape.passes) ≡ script.shape.passes = allowances-count script.lines script.shape.passes in
     let small : script.opening + sum (allowances script.lines script.shape.passes) < 2 ^ 63 = rw all sound.total in
     record {
-      legal = (start_is script.shape script.opening no_cap (allowances script.lines script.shape.passes) each (omega arith) (omega (arith, sound.total)) small, tt);
+      legal = (faultless_starts_are_starts script.shape script.opening no_cap (allowances script.lines script.shape.passes) each (omega arith) (omega (arith, sound.total)) small, tt);
       tracks = λ pass. tracks-here core [] pass (quiet pass) refl refl;
       ready = ready-first core script refl;
       passes = sound.passes;
