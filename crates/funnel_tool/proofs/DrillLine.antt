@@ -1,5 +1,5 @@
 -- The line of a drill, in which no take meets less than its amount.
-use Rattle.std.proofs.Common.{◌≡◌, ℕ, zero, suc, ◌+◌, ◌-◌, ◌≤◌, ◌<◌, List, [], ◌∷◌, Option, Some, length, map, take, drop, get_or, slice_get, refl, sym, ap, ◌∙◌, subst, arith}
+use Rattle.std.proofs.Common.{◌≡◌, ℕ, zero, suc, ◌+◌, ◌-◌, ◌≤◌, ◌<◌, List, [], ◌∷◌, Some, length, map, take, drop, slice_get, refl, sym, ap, ◌∙◌, subst, arith}
 use Rattle.std.specs.Prelude.{All, codes, sum_by, ◌==◌, if◌then◌else◌, ◌^◌}
 use Rattle.std.specs.List.{zip}
 use Rattle.std.proofs.lemmas.Option.{get_or_from_slice_get, slice_get_within}
@@ -12,7 +12,7 @@ use Rattle.fn_core.specs.declared.Start.{Start}
 use Rattle.fn_model.specs.Integer.{moved_amount}
 use Rattle.quota_pool.specs.declared.moved.Moved.{Moved}
 use Rattle.trace_text.specs.Drill.{drill, drill_row, drill_rows, taken, total_taken}
-use Rattle.trace_text.specs.SoundTrace.{IsSoundRow, IsSoundTrace, amounts}
+use Rattle.trace_text.specs.SoundTrace.{IsSoundRow, amounts}
 use Rattle.trace_text.specs.Trace.{Content, added}
 use Rattle.trace_text.specs.declared.traces.Op.{Op}
 use Rattle.trace_text.specs.declared.traces.Op.TheVariants.{Add, Take, Direct, Read}
@@ -21,10 +21,11 @@ use Rattle.trace_text.specs.declared.traces.Tenant.{Tenant}
 use Rattle.trace_text.proofs.DrillSums.{drill-sound}
 use Rattle.replay_report.specs.Report.{moved_by, summary_line, summary_text}
 use Rattle.replay_report.proofs.Segments.{summary-is}
-use Rattle.replay_run.specs.Replay.{AreReplayed, IsAnswered, IsBook, IsReplay, IsSegment, value_in}
+use Rattle.replay_run.specs.Replay.{IsReplay, IsSegment, value_in}
 use Rattle.replay_run.specs.Segments.{call_after, kind_of}
 use Rattle.funnel_tool.specs.Outcome.{IsSummary, drill_line, total_added}
-use Rattle.funnel_tool.proofs.NeverShort.{adds, by_call, by_row, reply-whole, sum_by-rows, takes, value-whole}
+use Rattle.replay_run.proofs.Outside.{adds}
+use Rattle.funnel_tool.proofs.NeverShort.{by_call, by_row, reply-whole, sum_by-rows, takes, value-whole}
 
 -- what an op does with its amount, by its kind
 takes-taken : (op : Op) (amount : ℕ) → takes (kind_of op) amount ≡ taken op amount

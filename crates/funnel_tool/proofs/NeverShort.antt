@@ -15,13 +15,9 @@ use Rattle.replay_run.specs.Segments.{call_of, calls_from, is_of, kind_of, rows_
 use Rattle.replay_run.specs.Work.{of_worker}
 use Rattle.replay_run.proofs.KeyedSums.{same_sums}
 use Rattle.replay_run.proofs.NoFault.{none_from, worker_of}
+use Rattle.replay_run.proofs.Outside.{adds}
 
--- what a call can add, and what it can take
-abbrev pub adds : Kind → ℕ → ℕ
-adds Add amount = amount
-adds Sub amount = 0
-adds Read amount = 0
-
+-- what a call can take
 abbrev pub takes : Kind → ℕ → ℕ
 takes Add amount = 0
 takes Sub amount = amount

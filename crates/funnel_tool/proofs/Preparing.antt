@@ -1,6 +1,5 @@
 -- From what the parts of a run give to how it ends.
-use Rattle.std.proofs.Common.{◌≡◌, ◌⊎◌, ◌<◌, ℕ, List, [], ◌∷◌, Option, None, Some, Result, Ok, Err, String, length, refl, sym, ◌∙◌, inl, inr}
-use Rattle.std.specs.Io.KnownBytes.{Consumes}
+use Rattle.std.proofs.Common.{◌≡◌, ℕ, List, [], Option, None, Some, Result, Ok, Err}
 use Rattle.fn_core.specs.Calls.{CoreLog}
 use Rattle.trace_text.specs.Script.{script_of, content}
 use Rattle.trace_text.specs.declared.scripts.Script.{Script}

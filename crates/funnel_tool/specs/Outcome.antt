@@ -6,7 +6,7 @@
 --     Refuses command bytes why callers      why a command can't have its text
 --     Ends asked input output outcome ending      what each ending means
 --     status_of ending, error_line ending      its status, and its line on standard error
-use Rattle.std.specs.Prelude.{◌≡◌, ◌⊎◌, ℕ, ◌+◌, ◌<◌, ◌≤◌, ◌++◌, List, [], ◌∷◌, length, map, Option, Some, None, Result, Ok, Err, codes, decimal, sum_by}
+use Rattle.std.specs.Prelude.{◌≡◌, ◌⊎◌, ℕ, ◌+◌, ◌<◌, ◌≤◌, ◌++◌, List, [], ◌∷◌, length, map, Option, Some, None, Ok, Err, codes, decimal, sum_by}
 use Rattle.std.specs.Io.KnownBytes.{Consumes, Appends, IsAtEnd}
 use Rattle.edge_io.specs.Causes.{Rose}
 use Rattle.edge_io.specs.Whole.{AppendsPart}

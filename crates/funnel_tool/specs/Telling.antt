@@ -11,7 +11,6 @@ use Rattle.tool_words.specs.declared.commands.Command.{Command}
 use Rattle.funnel_tool.specs.Outcome.{Input, Output, Reads, ReadsAll, Refuses, Stops, Tells, Writes, WritesNothing}
 use Rattle.funnel_tool.specs.declared.ending.Ending.{Ending}
 use Rattle.funnel_tool.specs.declared.ending.Ending.TheVariants.{Refused, ReadFailed, NoMemory}
-use Rattle.funnel_tool.specs.declared.ending.Refusal.{Refusal}
 use Rattle.funnel_tool.specs.declared.ending.Refusal.TheVariants.{TooLong, ByScript}
 use Rattle.funnel_tool.specs.declared.ending.TheConstants.{INPUT_LIMIT}
 use Rattle.funnel_tool.specs.declared.run.Outcome.{Outcome}

@@ -1,4 +1,4 @@
-use Rattle.std.proofs.Common.{Some, refl, sym, ap, []}
+use Rattle.std.proofs.Common.{Some, refl, ap, []}
 use Rattle.tool_words.specs.declared.commands.Command.TheVariants.{Replay, Drill, Relay}
 use Rattle.funnel_tool.specs.Outcome.{reading}
 use Rattle.funnel_tool.proofs.Preparing.{telling-prepared}

@@ -1,4 +1,4 @@
-use Rattle.std.proofs.Common.{Some, refl, sym, ap}
+use Rattle.std.proofs.Common.{Some, ap}
 use Rattle.tool_words.specs.declared.commands.Command.TheVariants.{Play, Trial}
 use Rattle.funnel_tool.specs.Outcome.{of_scripts, reading}
 use Rattle.funnel_tool.proofs.Preparing.{telling-prepared}

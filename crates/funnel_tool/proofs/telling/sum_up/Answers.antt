@@ -1,4 +1,4 @@
-use Rattle.std.proofs.Common.{◌≡◌, ◌∙◌, map, ap}
+use Rattle.std.proofs.Common.{◌∙◌, map, ap}
 use Rattle.trace_text.specs.Trace.{content}
 use Rattle.replay_run.specs.Replay.{value_in}
 use Rattle.funnel_tool.proofs.Counts.{replay-has_answers}

@@ -1,4 +1,3 @@
-use Rattle.std.proofs.Common.{rules}
 use Rattle.funnel_tool.proofs.DrillLine.{drill-line}
 use Rattle.funnel_tool.proofs.telling.tell_drill.Goals as goal
 

@@ -1,6 +1,5 @@
-use Rattle.std.proofs.Common.{rules, ◌≡◌, ◌<◌, ◌∙◌, ◌∷◌, ◌++◌, [], ap, length, map, refl}
+use Rattle.std.proofs.Common.{rules, ◌≡◌, ◌<◌, ◌∷◌, ◌++◌, [], length, refl}
 use Rattle.std.proofs.lemmas.List.{map-append, take_more}
-use Rattle.replay_run.specs.Replay.{value_in}
 use Rattle.funnel_tool.proofs.telling.values_of.Goals as goal
 
 pub loop-book-preserved : goal.loop-book-preserved
