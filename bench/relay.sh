@@ -2,11 +2,7 @@
 # Times `relay 4 64` on 100,000 lines beside a plain Rust program with a bounded queue under one lock.
 # Wants the proved program (./.ci/run, or rt run in crates/funnel_tool) and rustc.
 set -eu
-cd "$(dirname "$0")/.."
-tool=crates/funnel_tool/out/funnel_tool
-[ -x "$tool" ] || { echo "first: cd crates/funnel_tool && rt run" >&2; exit 1; }
-work=$(mktemp -d)
-trap 'rm -rf "$work"' EXIT
+. "$(dirname "$0")/tool.sh"
 rustc -O -o "$work/plain" bench/plain_relay.rs
 seq 1 100000 >"$work/lines"
 timed() {

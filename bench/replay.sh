@@ -2,11 +2,7 @@
 # Times `replay 1` beside a plain Rust program of the same job on 200,000 rows, and then `replay 16`, growth to 1,000,000 rows, a large drill, and the memory of the largest pool.
 # Wants the proved program (./.ci/run, or rt run in crates/funnel_tool) and rustc.
 set -eu
-cd "$(dirname "$0")/.."
-tool=crates/funnel_tool/out/funnel_tool
-[ -x "$tool" ] || { echo "first: cd crates/funnel_tool && rt run" >&2; exit 1; }
-work=$(mktemp -d)
-trap 'rm -rf "$work"' EXIT
+. "$(dirname "$0")/tool.sh"
 rustc -O -o "$work/plain" bench/plain_replay.rs
 timed() { # a name, and a command that reads the file $input
     local name=$1 best= one
