@@ -191,7 +191,7 @@ pub fn logs_go_on()
     ensures resting { RestingPassesHaveNoCall }
 {}
 
-/// What each order to a pass leaves of the log, of the pass's calls and allowance and of the other passes: a step of its call, a call by itself, and a beginning. Each is legal where its premises hold, from the start on.
+/// What each order to a pass leaves of the log, of the pass's calls and allowance and of the other passes: a step of its call, a call by itself, and a beginning. Each is legal where its premises hold; a funnel may open with the numbers that have no fault.
 pub fn orders_leave()
     ensures steps { StepsLeave }
     ensures own { OwnCallsLeave }

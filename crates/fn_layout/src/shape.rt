@@ -97,34 +97,38 @@ impl Shape {
     }
 
     /// The number of aggregators of a level.
-    #[tactic(auto, using(crate::proofs::Tree::width_step))]
+    #[inline(always)]
     pub fn width(self, level: u32) -> u32
         requires { IsLevel self level }
-        ensures { result ≡ width self level }
+        ensures exact { result ≡ width self level }
+        ensures bounded { result ≤ 32 }
     {
-        let mut width = self.leaves;
-        for _level in 1..level {
-            width = width.div_ceil(2);
+        match level {
+            1 => self.leaves,
+            2 => self.leaves.div_ceil(2),
+            _ => self.leaves.div_ceil(2).div_ceil(2),
         }
-        width
     }
 
     /// The index of the aggregator of a pass.
-    #[tactic(auto, using(crate::proofs::Tree::aggregator_step))]
+    #[inline(always)]
+    #[tactic(auto, using(crate::proofs::Tree::aggregator_below))]
     pub fn aggregator_of(self, pass: u32, level: u32) -> u32
         requires level_in_range { IsLevel self level }
         requires pass_in_range { pass < self.passes }
         ensures exact { result ≡ aggregator self pass level }
         ensures in_range { result < width self level }
     {
-        let mut index = pass % self.leaves;
-        for _level in 1..level {
-            index /= 2;
+        let leaf = pass % self.leaves;
+        match level {
+            1 => leaf,
+            2 => leaf / 2,
+            _ => leaf / 2 / 2,
         }
-        index
     }
 
     /// The number of a pass's row.
+    #[inline(always)]
     pub fn row_of(self, pass: u32, kind: Kind, level: u32, r: u32) -> u32
         requires slot_in_range { IsNamed self (Announcement pass kind level) }
         requires row_in_range { r < self.rows }
@@ -178,6 +182,7 @@ impl Shape {
         0
     }
 
+    #[inline(always)]
     pub fn value_word(self, kind: Kind, level: u32, index: u32) -> u32
         requires { IsNamed self (Value kind level index) }
         ensures exact { result ≡ number self (Value kind level index) }
@@ -186,6 +191,7 @@ impl Shape {
         1 + 3 * self.aggregator_number(kind, level, index)
     }
 
+    #[inline(always)]
     pub fn last_word(self, kind: Kind, level: u32, index: u32) -> u32
         requires { IsNamed self (Last kind level index) }
         ensures exact { result ≡ number self (Last kind level index) }
@@ -194,6 +200,7 @@ impl Shape {
         2 + 3 * self.aggregator_number(kind, level, index)
     }
 
+    #[inline(always)]
     pub fn done_word(self, kind: Kind, level: u32, index: u32) -> u32
         requires { IsNamed self (Done kind level index) }
         ensures exact { result ≡ number self (Done kind level index) }
@@ -202,6 +209,7 @@ impl Shape {
         3 + 3 * self.aggregator_number(kind, level, index)
     }
 
+    #[inline(always)]
     pub fn announce_word(self, pass: u32, kind: Kind, level: u32) -> u32
         requires { IsNamed self (Announcement pass kind level) }
         ensures exact { result ≡ number self (Announcement pass kind level) }
@@ -211,6 +219,7 @@ impl Shape {
     }
 
     /// The number of one word of a row.
+    #[inline(always)]
     #[tactic(auto, using(crate::proofs::Numbers::all_rows_le))]
     pub fn row_word(self, row: u32, field: Field) -> u32
         requires { row < slots self * self.rows }
@@ -229,6 +238,7 @@ impl Shape {
     }
 
     // How many leaves stand under an aggregator, where there are enough.
+    #[inline(always)]
     fn reach(self, level: u32) -> u32
         requires { IsLevel self level }
         ensures exact { result ≡ 2 ^ (level - 1) }
@@ -262,6 +272,7 @@ impl Shape {
     }
 
     /// The number of aggregators of one kind.
+    #[inline(always)]
     pub fn aggregators(self) -> u32
         ensures exact { result ≡ aggregators self }
         ensures bounded { result ≤ 96 }
@@ -270,21 +281,22 @@ impl Shape {
     }
 
     // The number of aggregators of one kind on the levels up to this one.
+    #[inline(always)]
     fn first_widths(self, levels: u32) -> u32
         requires { levels ≤ self.levels }
         ensures exact { result ≡ first_widths self.leaves levels }
         ensures bounded { result ≤ 96 }
     {
-        let mut sum = 0;
-        let mut width = self.leaves;
-        for _level in 0..levels {
-            sum += width;
-            width = width.div_ceil(2);
+        match levels {
+            0 => 0,
+            1 => self.width(1),
+            2 => self.width(1) + self.width(2),
+            _ => self.width(1) + self.width(2) + self.width(3),
         }
-        sum
     }
 
     /// The number of an aggregator among those of both kinds.
+    #[inline(always)]
     pub fn aggregator_number(self, kind: Kind, level: u32, index: u32) -> u32
         requires { IsNamed self (Value kind level index) }
         ensures exact { result ≡ aggregator_number self kind level index }
@@ -295,6 +307,7 @@ impl Shape {
     }
 
     // How many pairs of pass, kind and level there are.
+    #[inline(always)]
     fn slots(self) -> u32
         ensures exact { result ≡ slots self }
         ensures bounded { result ≤ 384 }
@@ -303,6 +316,7 @@ impl Shape {
     }
 
     // The number of a pair of pass, kind and level.
+    #[inline(always)]
     fn slot(self, pass: u32, kind: Kind, level: u32) -> u32
         requires { IsNamed self (Announcement pass kind level) }
         ensures exact { result ≡ slot_number self pass kind level }
@@ -311,6 +325,7 @@ impl Shape {
         (2 * pass + kind_number(kind)) * self.levels + (level - 1)
     }
 
+    #[inline(always)]
     fn first_announcement(self) -> u32
         ensures exact { result ≡ first_announcement self }
         ensures bounded { result ≤ 577 }
@@ -318,6 +333,7 @@ impl Shape {
         1 + 6 * self.aggregators()
     }
 
+    #[inline(always)]
     fn first_row(self) -> u32
         ensures exact { result ≡ first_row self }
         ensures bounded { result ≤ 961 }
@@ -327,6 +343,7 @@ impl Shape {
 }
 
 // The number of a kind of calls.
+#[inline(always)]
 fn kind_number(kind: Kind) -> u32
     ensures { result ≡ kind_number kind }
 {
@@ -338,6 +355,7 @@ fn kind_number(kind: Kind) -> u32
 }
 
 // The place of a word in its row.
+#[inline(always)]
 fn field_number(field: Field) -> u32
     ensures { result ≡ field_number field }
 {
