@@ -1,5 +1,6 @@
 -- The laws of logs that go on, and of the orders to a pass.
-use Rattle.std.proofs.Common.{◌≡◌, inl, inr, ℕ, ◌<◌, Bool, true, false, List, [], ◌∷◌, Ok, refl, sym, ap, subst}
+use Rattle.std.proofs.Common.{◌≡◌, inl, inr, ℕ, ◌<◌, Bool, true, false, List, [], ◌∷◌, Ok, refl, sym, ◌∙◌, ap, subst}
+use mathlib.Core.List.{IsPrefix}
 use Rattle.std.specs.Prelude.{if◌then◌else◌, ◌==◌}
 use Rattle.std.proofs.lemmas.Bool.{eqb-true}
 use Rattle.fn_model.specs.declared.Call.{Call}
@@ -7,20 +8,22 @@ use Rattle.fn_model.specs.declared.Kind.{Kind}
 use Rattle.fn_model.specs.declared.Kind.TheVariants.{Add, Sub, Read}
 use Rattle.fn_model.proofs.Spent.{All-history}
 use Rattle.fn_core.specs.declared.Purpose.TheVariants as purpose
+use Rattle.fn_core.specs.declared.Event.{Event}
 use Rattle.fn_core.specs.declared.Move.{Move}
 use Rattle.fn_core.specs.declared.Move.TheVariants.{Load, Exchange, Direct}
 use Rattle.fn_core.specs.declared.answer.CoreBegun.{CoreBegun}
-use Rattle.fn_core.specs.State.{Start, State, opened}
-use Rattle.fn_core.specs.Machine.{IsChange, MaySpend, run, no_cap}
+use Rattle.fn_core.specs.State.{Start, State, opened, history_in}
+use Rattle.fn_core.specs.Machine.{IsChange, MaySpend, Legal, run, no_cap}
 use Rattle.fn_core.specs.Order.{next_move}
 use Rattle.fn_core.specs.Begin.{begin_moves, begun, events_of}
-use Rattle.fn_core.specs.Calls.{CoreLog, state_in, IsLegal, IsIdle, MayOwn, exchange_moves, own_moves, with_move, with_moves}
-use Rattle.fn_core.specs.Orders.{LogsArePartedAndJoined, RunsGoOn, CallsAreOfPasses, RestingPassesHaveNoCall, StepsLeave, OwnCallsLeave, BeginningsLeave, FaultlessStartsAreStarts}
+use Rattle.fn_core.specs.Calls.{CoreLog, state_in, calls_in, IsLegal, IsIdle, MayOwn, exchange_moves, own_moves, with_move, with_moves}
+use Rattle.fn_core.specs.Orders.{LogsArePartedAndJoined, RunsGoOn, HistoriesGoOn, CallsAreOfPasses, RestingPassesHaveNoCall, StepsLeave, OwnCallsLeave, BeginningsLeave, FaultlessStartsAreStarts}
 use Rattle.fn_core.proofs.Begins.{rests_out}
 use Rattle.fn_core.proofs.Called.{legal_move, exchange_allowed, joins_so, idle_so}
 use Rattle.fn_core.proofs.Counted.{opened_counted, log_counted}
 use Rattle.fn_core.proofs.Filling.{calls_always_go_on}
 use Rattle.fn_core.proofs.Follows.{legal_parts, run_parts}
+use Rattle.fn_core.proofs.Grows.{histories_grow}
 use Rattle.fn_core.proofs.Left.{step_keeps, step_left, step_others, own_leaves, moves_leave_others}
 use Rattle.fn_core.proofs.Log.{opened_whole}
 use Rattle.fn_core.proofs.Opened.{start_is}
@@ -34,6 +37,18 @@ logs_are_parted_and_joined start earlier later s = (legal_parts start earlier la
 
 pub runs_go_on : RunsGoOn
 runs_go_on = run_parts
+
+history_begins : (start : Start) (first log : List Event) → (let core : CoreLog = record { start = start; log = log } in IsLegal core) → IsPrefix first log
+    → (let was : CoreLog = record { start = start; log = first } in let now : CoreLog = record { start = start; log = log } in IsPrefix (calls_in was) (calls_in now))
+history_begins start first log legal begins =
+    let parts = legal_parts start first begins.0 (opened start) (subst (λ (l : List Event). Legal start l (opened start)) (sym begins.1) legal.1) in
+    let further = histories_grow start first legal.0 parts.0 begins.0 parts.1 in
+    (further.0, sym (ap (λ (l : List Event). history_in start (run start l (opened start))) (sym begins.1) ∙ ap (λ (s : State). history_in start s) (run_parts start first begins.0 (opened start)) ∙ further.1))
+
+pub histories_go_on : HistoriesGoOn
+histories_go_on old new legal same begins =
+    subst (λ (start : Start). let was : CoreLog = record { start = start; log = old.log } in IsPrefix (calls_in was) (calls_in new)) same
+    (history_begins new.start old.log new.log legal begins)
 
 pub calls_are_of_passes : CallsAreOfPasses
 calls_are_of_passes start log ok legal =

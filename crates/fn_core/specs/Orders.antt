@@ -1,9 +1,11 @@
 -- How logs go on, and what a step, a call by itself and a beginning leave.
 --     LogsArePartedAndJoined, RunsGoOn      a legal log and its parts
+--     HistoriesGoOn      the history of a log that goes on from another
 --     CallsAreOfPasses, RestingPassesHaveNoCall      whose calls there are
 --     StepsLeave, OwnCallsLeave, BeginningsLeave      what each order to a pass leaves
 --     FaultlessStartsAreStarts      with which numbers a funnel opens
 use Rattle.std.specs.Prelude.{◌≡◌, ℕ, suc, ◌+◌, ◌<◌, ◌≤◌, ◌^◌, List, ◌++◌, All, length, sum}
+use mathlib.Core.List.{IsPrefix}
 use Rattle.fn_model.specs.declared.Kind.{Kind}
 use Rattle.fn_layout.specs.declared.shape.Shape.{Shape}
 use Rattle.fn_core.specs.declared.Event.{Event}
@@ -14,7 +16,7 @@ use Rattle.fn_core.specs.State.{Start, State, Caller, history_in, next_call}
 use Rattle.fn_core.specs.Machine.{no_cap, IsStart, IsChange, MaySpend, Legal, run}
 use Rattle.fn_core.specs.Order.{next_move}
 use Rattle.fn_core.specs.Begin.{WaitsAtLeaf, begin_moves, begun, spent}
-use Rattle.fn_core.specs.Calls.{CoreLog, state_in, IsLegal, IsIdle, HasCall, MayOwn, OwnCallJoins, LeavesOthers, left_of, with_move, with_moves, own_moves}
+use Rattle.fn_core.specs.Calls.{CoreLog, state_in, calls_in, IsLegal, IsIdle, HasCall, MayOwn, OwnCallJoins, LeavesOthers, left_of, with_move, with_moves, own_moves}
 use Rattle.fn_core.specs.Laws.{Always}
 
 -- the events of a log happen where those before some moment do and then those after it
@@ -26,6 +28,10 @@ LogsArePartedAndJoined = (start : Start) (earlier later : List Event) (s : State
 -- the later events go on from the state that the earlier ones leave
 abbrev pub RunsGoOn : Type 0
 RunsGoOn = (start : Start) (earlier later : List Event) (s : State) → run start (earlier ++ later) s ≡ run start later (run start earlier s)
+
+-- the history of a log begins that of each log that goes on from it
+abbrev pub HistoriesGoOn : Type 0
+HistoriesGoOn = (old new : CoreLog) → IsLegal new → new.start ≡ old.start → IsPrefix old.log new.log → IsPrefix (calls_in old) (calls_in new)
 
 -- each call of the history is of one of the funnel's passes
 abbrev pub CallsAreOfPasses : Type 0

@@ -6,7 +6,7 @@ ghost use Rattle.fn_core.specs.Laws.{RowsAreLawful, RowsHaveNames, FreeRowsStay,
 ghost use Rattle.fn_core.specs.Laws.{EventsAreLocal, GuardsStay, NextIsOwn, EventsAreSteps, PositionsFit, CallsAlwaysGoOn, StepsRunOut, CallsAreShort, OthersCostNothing};
 ghost use Rattle.fn_core.specs.Trees.{TreesStand, OneStepAnEvent};
 ghost use Rattle.fn_core.specs.Entries.{EntriesStay, NoCallEntersTwice, DirectCallsAreAlone, FunnelledCallsAreBatched};
-ghost use Rattle.fn_core.specs.Orders.{LogsArePartedAndJoined, RunsGoOn, CallsAreOfPasses, RestingPassesHaveNoCall, StepsLeave, OwnCallsLeave, BeginningsLeave, FaultlessStartsAreStarts};
+ghost use Rattle.fn_core.specs.Orders.{LogsArePartedAndJoined, RunsGoOn, HistoriesGoOn, CallsAreOfPasses, RestingPassesHaveNoCall, StepsLeave, OwnCallsLeave, BeginningsLeave, FaultlessStartsAreStarts};
 ghost use Rattle.fn_core.specs.Polls.{StepsFollow, PollsAreShort};
 ghost use Rattle.fn_core.specs.After.{StepsTell, WordsAreFound};
 
@@ -183,10 +183,11 @@ pub fn calls_go_on()
     ensures polls { PollsAreShort }
 {}
 
-/// A legal log is legal in its parts, and goes on from the state that its first part leaves; each call in its history is of a pass of the funnel, which has none underway while it rests.
+/// A legal log is legal in its parts, and goes on from the state that its first part leaves, as its history does from that part's; each call in its history is of a pass of the funnel, which has none underway while it rests.
 pub fn logs_go_on()
     ensures parts { LogsArePartedAndJoined }
     ensures runs { RunsGoOn }
+    ensures histories { HistoriesGoOn }
     ensures passes { CallsAreOfPasses }
     ensures resting { RestingPassesHaveNoCall }
 {}
