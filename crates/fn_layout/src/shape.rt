@@ -1,6 +1,6 @@
 //! The shape of a funnel and the number of each of its words.
 
-ghost use Rattle.std.specs.Prelude.{◌≡◌, ◌≢◌, ◌+◌, ◌-◌, ◌*◌, ◌^◌, ◌≤◌, ◌<◌, IfOk, MatchResult, Some, None};
+ghost use Rattle.std.specs.Prelude.{◌≡◌, ◌≢◌, ◌+◌, ◌-◌, ◌*◌, ◌/◌, ◌%◌, ◌^◌, ◌≤◌, ◌<◌, IfOk, MatchResult, Some, None};
 ghost use Rattle.fn_layout.specs.Kinds.{IsFunnelled, kind_number, field_number};
 ghost use Rattle.fn_layout.specs.declared.shape.TheConstants.{MAX_PASSES, MAX_LEAVES, MAX_LEVELS, MAX_ROWS};
 
@@ -119,7 +119,7 @@ impl Shape {
         ensures exact { result ≡ aggregator self pass level }
         ensures in_range { result < width self level }
     {
-        let leaf = pass % self.leaves;
+        let leaf = remainder(pass, self.leaves);
         match level {
             1 => leaf,
             2 => leaf / 2,
@@ -160,7 +160,8 @@ impl Shape {
     {
         let index = self.aggregator_of(pass, level);
         let first = self.first_leaf(level, index);
-        pass / self.leaves * self.leaves_under(level, index) + (pass % self.leaves - first)
+        quotient(pass, self.leaves) * self.leaves_under(level, index)
+            + (remainder(pass, self.leaves) - first)
     }
 
     /// The pass with this number among the passes of an aggregator.
@@ -173,7 +174,8 @@ impl Shape {
         ensures of_aggregator { aggregator self result level ≡ index }
     {
         let under = self.leaves_under(level, index);
-        number / under * self.leaves + (self.first_leaf(level, index) + number % under)
+        quotient(number, under) * self.leaves
+            + (self.first_leaf(level, index) + remainder(number, under))
     }
 
     pub fn main_word(self) -> u32
@@ -340,6 +342,24 @@ impl Shape {
     {
         self.first_announcement() + self.slots()
     }
+}
+
+// How often one number is in another, with no division where the other is less.
+#[inline(always)]
+fn quotient(number: u32, by: u32) -> u32
+    requires { 1 ≤ by }
+    ensures { result ≡ number / by }
+{
+    if number < by { 0 } else { number / by }
+}
+
+// What such a division leaves.
+#[inline(always)]
+fn remainder(number: u32, by: u32) -> u32
+    requires { 1 ≤ by }
+    ensures { result ≡ number % by }
+{
+    if number < by { number } else { number % by }
 }
 
 // The number of a kind of calls.
