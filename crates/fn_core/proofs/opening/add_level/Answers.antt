@@ -12,7 +12,7 @@ loop-index-init c = ([], sym (append-nil c.args.all.now.items), (refl, λ index 
 pub new-requires : goal.new-requires
 new-requires c =
     let shape = c.args.shape in
-    let inside : c.loop-index.index < width shape c.args.level = subst (λ (n : ℕ). c.loop-index.index < n) c.width-index-end.ensures c.loop-index-test.true in
+    let inside : c.loop-index.index < width shape c.args.level = subst (λ (n : ℕ). c.loop-index.index < n) c.width-index-end.ensures.exact c.loop-index-test.true in
     let some = members_some shape c.args.level c.loop-index.index inside in (
       omega (arith, c.members-members.ensures.exact, some),
       omega (arith, c.members-members.ensures.in_range, shape.passes_in_range),
@@ -34,5 +34,5 @@ loop-index-preserved c =
 pub returns : goal.returns
 returns c =
     let so_far = c.loop-index.invariant in
-    let last : c.loop-index.index ≡ width c.args.shape c.args.level = omega (arith, c.loop-index.auto.index-end, c.loop-index-test.false, c.width-index-end.ensures) in
+    let last : c.loop-index.index ≡ width c.args.shape c.args.level = omega (arith, c.loop-index.auto.index-end, c.loop-index-test.false, c.width-index-end.ensures.exact) in
     (so_far.0, so_far.1, subst (λ (n : ℕ). AreFirst c.args.shape c.args.level n so_far.0) last so_far.2)
