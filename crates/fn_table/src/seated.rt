@@ -29,6 +29,7 @@ impl Model for Seated {
     ghost invariant = { λ p. HasOne p.number p.seat.me.0 × (p.seat.me.1 ≡ []) × IsLegal (shown p.seat.table_id p.number p.seat.me.0).seen × (p.number < p.seat.me.0.start.shape.passes) };
 }
 
+#[inline(always)]
 fn load_as<T: Taken>(words: &Words, pass: &mut Seated, word: usize, _step: Move) -> u64
     requires here { IsHere words.now.table_id word pass.old T.step }
     requires may { May pass.old T.step }
@@ -38,6 +39,7 @@ fn load_as<T: Taken>(words: &Words, pass: &mut Seated, word: usize, _step: Move)
     words.load::<Finds<T>>(&mut pass.seat, word)
 }
 
+#[inline(always)]
 fn add_as<T: Taken>(words: &Words, pass: &mut Seated, word: usize, amount: u64, _step: Move) -> u64
     requires here { IsHere words.now.table_id word pass.old T.step }
     requires may { May pass.old T.step }
@@ -47,6 +49,7 @@ fn add_as<T: Taken>(words: &Words, pass: &mut Seated, word: usize, amount: u64, 
     words.fetch_add::<Finds<T>>(&mut pass.seat, word, amount)
 }
 
+#[inline(always)]
 fn store_as<T: Taken>(words: &Words, pass: &mut Seated, word: usize, new: u64, _step: Move)
     requires here { IsHere words.now.table_id word pass.old T.step }
     requires may { May pass.old T.step }
@@ -56,6 +59,7 @@ fn store_as<T: Taken>(words: &Words, pass: &mut Seated, word: usize, new: u64, _
     words.store::<Stores<T>>(&mut pass.seat, word, new);
 }
 
+#[inline(always)]
 fn exchange_as<T: Taken>(
     words: &Words,
     pass: &mut Seated,
@@ -73,6 +77,7 @@ fn exchange_as<T: Taken>(
 }
 
 /// A load, by which the pass takes this step.
+#[inline(always)]
 pub fn load(words: &Words, pass: &mut Seated, word: usize, step: Move) -> u64
     requires here { IsHere words.now.table_id word pass.old step }
     requires may { May pass.old step }
@@ -83,6 +88,7 @@ pub fn load(words: &Words, pass: &mut Seated, word: usize, step: Move) -> u64
 }
 
 /// An addition, by which the pass takes this step.
+#[inline(always)]
 pub fn add(words: &Words, pass: &mut Seated, word: usize, amount: u64, step: Move) -> u64
     requires here { IsHere words.now.table_id word pass.old step }
     requires may { May pass.old step }
@@ -93,6 +99,7 @@ pub fn add(words: &Words, pass: &mut Seated, word: usize, amount: u64, step: Mov
 }
 
 /// A store, by which the pass takes this step.
+#[inline(always)]
 pub fn store(words: &Words, pass: &mut Seated, word: usize, new: u64, step: Move)
     requires here { IsHere words.now.table_id word pass.old step }
     requires may { May pass.old step }
@@ -103,6 +110,7 @@ pub fn store(words: &Words, pass: &mut Seated, word: usize, new: u64, step: Move
 }
 
 /// A compare-exchange, by which the pass takes this step.
+#[inline(always)]
 pub fn exchange(
     words: &Words,
     pass: &mut Seated,

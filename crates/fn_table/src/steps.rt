@@ -14,6 +14,7 @@ use crate::words::word_of;
 use fn_core::Move;
 
 // The word of the pass's step.
+#[inline(always)]
 fn place_of(table: &FunnelTable, caller: &Seated, step: Move) -> usize
     requires together { IsOf table.now caller.now }
     requires may { May caller.now step }
@@ -24,6 +25,7 @@ fn place_of(table: &FunnelTable, caller: &Seated, step: Move) -> usize
 }
 
 /// A load, by which the pass takes this step.
+#[inline(always)]
 pub fn load(table: &FunnelTable, caller: &mut Seated, step: Move) -> u64
     requires together { IsOf table.now caller.old }
     requires may { May caller.old step }
@@ -35,6 +37,7 @@ pub fn load(table: &FunnelTable, caller: &mut Seated, step: Move) -> u64
 }
 
 /// An addition, by which the pass takes this step.
+#[inline(always)]
 pub fn add(table: &FunnelTable, caller: &mut Seated, amount: u64, step: Move) -> u64
     requires together { IsOf table.now caller.old }
     requires may { May caller.old step }
@@ -46,6 +49,7 @@ pub fn add(table: &FunnelTable, caller: &mut Seated, amount: u64, step: Move) ->
 }
 
 /// A store, by which the pass takes this step.
+#[inline(always)]
 pub fn store(table: &FunnelTable, caller: &mut Seated, new: u64, step: Move)
     requires together { IsOf table.now caller.old }
     requires may { May caller.old step }
@@ -57,6 +61,7 @@ pub fn store(table: &FunnelTable, caller: &mut Seated, new: u64, step: Move)
 }
 
 /// A compare-exchange, by which the pass takes this step.
+#[inline(always)]
 pub fn exchange(table: &FunnelTable, caller: &mut Seated, old: u64, new: u64, step: Move) -> u64
     requires together { IsOf table.now caller.old }
     requires may { May caller.old step }
@@ -68,6 +73,7 @@ pub fn exchange(table: &FunnelTable, caller: &mut Seated, old: u64, new: u64, st
 }
 
 /// A load that leaves what the pass keeps of itself.
+#[inline(always)]
 pub fn quiet_load(table: &FunnelTable, pass: &mut Pass, step: Move) -> u64
     requires together { IsOf table.now pass.old }
     requires may { May pass.old step }
@@ -79,6 +85,7 @@ pub fn quiet_load(table: &FunnelTable, pass: &mut Pass, step: Move) -> u64
 }
 
 /// .. an addition
+#[inline(always)]
 pub fn quiet_add(table: &FunnelTable, pass: &mut Pass, amount: u64, step: Move) -> u64
     requires together { IsOf table.now pass.old }
     requires may { May pass.old step }
@@ -90,6 +97,7 @@ pub fn quiet_add(table: &FunnelTable, pass: &mut Pass, amount: u64, step: Move) 
 }
 
 /// .. a store
+#[inline(always)]
 pub fn quiet_store(table: &FunnelTable, pass: &mut Pass, new: u64, step: Move)
     requires together { IsOf table.now pass.old }
     requires may { May pass.old step }

@@ -8,6 +8,7 @@ use fn_core::Move;
 use fn_layout::{Field, Kind, Shape};
 
 // The value of the pass's aggregator of this kind and level.
+#[inline(always)]
 fn value_word(shape: Shape, pass: u32, kind: Kind, level: u32) -> u32
     requires { IsSlot shape pass kind level }
     ensures exact { result ≡ number shape (Value kind level (aggregator shape pass level)) }
@@ -17,6 +18,7 @@ fn value_word(shape: Shape, pass: u32, kind: Kind, level: u32) -> u32
 }
 
 // The word that names the row pointed to last, of the pass's aggregator of this kind and level.
+#[inline(always)]
 fn last_word(shape: Shape, pass: u32, kind: Kind, level: u32) -> u32
     requires { IsSlot shape pass kind level }
     ensures exact { result ≡ number shape (Last kind level (aggregator shape pass level)) }
@@ -26,6 +28,7 @@ fn last_word(shape: Shape, pass: u32, kind: Kind, level: u32) -> u32
 }
 
 // The word `done` of the pass's aggregator of this kind and level.
+#[inline(always)]
 fn done_word(shape: Shape, pass: u32, kind: Kind, level: u32) -> u32
     requires { IsSlot shape pass kind level }
     ensures exact { result ≡ number shape (Done kind level (aggregator shape pass level)) }
@@ -35,6 +38,7 @@ fn done_word(shape: Shape, pass: u32, kind: Kind, level: u32) -> u32
 }
 
 // The word of a row.
+#[inline(always)]
 fn row_word(shape: Shape, row: u32, field: Field) -> u32
     requires { IsNamed shape (row_name shape row field) }
     ensures exact { result ≡ number shape (row_name shape row field) }
@@ -44,6 +48,7 @@ fn row_word(shape: Shape, row: u32, field: Field) -> u32
 }
 
 /// The number of the word that the pass's step is on.
+#[inline(always)]
 pub fn word_of(shape: Shape, pass: u32, step: Move) -> u32
     requires named { IsNamed shape (name_of shape pass step) }
     requires pass_in_range { pass < shape.passes }
