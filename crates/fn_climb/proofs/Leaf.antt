@@ -24,9 +24,9 @@ use Rattle.fn_climb.specs.declared.course.Course.{Course}
 use Rattle.fn_climb.specs.Course.{Holds}
 use Rattle.fn_climb.specs.Steps.{IsLater}
 use Rattle.fn_climb.specs.Begin.{IsOpen, AreOpen, Arrived}
-use Rattle.fn_climb.proofs.Onward.{later_by}
+use Rattle.fn_climb.proofs.Later.{later_by, later_on}
 use Rattle.fn_climb.proofs.Goes.{level_same, level_other}
-use Rattle.fn_climb.proofs.Scans.{same_put, later_on}
+use Rattle.fn_climb.proofs.Scans.{same_put}
 use Rattle.fn_climb.proofs.Every.{open_still}
 
 module _ (p : PassView) (kind : Kind) (level n : ℕ) (less : n < p.seen.start.shape.rows) where

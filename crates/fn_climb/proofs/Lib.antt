@@ -1,3 +1,4 @@
+pub mod Later
 pub mod Links
 pub mod Underway
 pub mod Onward

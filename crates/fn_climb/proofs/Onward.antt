@@ -3,7 +3,7 @@ use Rattle.std.proofs.Common.{◌≡◌, ◌≢◌, inl, inr, ℕ, zero, suc, �
 use Rattle.std.specs.Prelude.{sum, slice_index_or, cond, ◌==◌}
 use Rattle.std.proofs.lemmas.Bool.{eq-eqb}
 use mathlib.Core.List.{IsPrefix}
-use Rattle.running.proofs.Logs.{none_after, prefix_more}
+use Rattle.running.proofs.Logs.{none_after}
 use Rattle.fn_model.specs.declared.Kind.{Kind}
 use Rattle.fn_model.specs.Calls.{place as place_of}
 use Rattle.fn_rows.specs.declared.Field.TheVariants.{Lo}
@@ -37,11 +37,12 @@ use Rattle.fn_core.proofs.Measure.{others_cost_nothing, steps_run_out}
 use Rattle.fn_core.proofs.Follows.{legal_parts, run_parts, in_call, follows, few_left}
 use Rattle.fn_table.specs.Funnel.{funnel}
 use Rattle.fn_table.specs.Seen.{PassView, Stepped, own_of, event, events_of, with_log}
+use Rattle.fn_climb.proofs.Later.{later_by}
 use Rattle.fn_table.proofs.OwnCalls.{legal_before as legal_until, own_before as own_until, allowed_then}
 use Rattle.fn_climb.specs.declared.course.Course.{Course}
 use Rattle.fn_climb.specs.Course.{position_by, IsCourseOf, HasChosen, Holds}
 use Rattle.fn_climb.specs.Next.{next_step, IsNext}
-use Rattle.fn_climb.specs.Steps.{IsLater, HasSameCall, HasReplied, Went}
+use Rattle.fn_climb.specs.Steps.{HasSameCall, HasReplied, Went}
 
 -- a call that has begun doesn't begin again
 begins_not : (start : Start) (s : State) (pass : ℕ) (step : Move) (kind k : Kind) (level : ℕ) (word : Option ℕ) → (s.callers pass).position ≡ position_by k level word → Allowed start s (event pass step) → Begins step kind → ⊥
@@ -92,16 +93,6 @@ others_cost start ok pass n log (e ∷ more) legal later none =
     let rest = others_cost start ok pass n (log ++ e ∷ []) more (legal_push start log e (opened start) legal later.0) (subst (Legal start more) (sym next) later.1) first.1 in
     ap (λ (x : State). steps_left start (run start more x) pass n) (sym next) ∙ rest ∙ ap (λ (x : State). steps_left start x pass n) next
     ∙ others_cost_nothing start log ok legal e later.0 pass n (λ same. first.0 (sym same))
-
--- a pass after its step
-pub later_by : (p : PassView) (step : Move) (n : ℕ) (q : PassView) → Stepped p step n q → IsLater p q
-later_by p step n q t = record {
-  table = ap (λ (v : PassView). v.table) t.now;
-  number = ap (λ (v : PassView). v.number) t.now;
-  start = ap (λ (v : PassView). v.seen.start) t.now;
-  begins = subst (λ (v : PassView). IsPrefix p.seen.log v.seen.log) (sym t.now) (prefix_more p.seen.log t.before (event p.number step ∷ []) t.begins);
-  legal = t.legal;
-}
 
 -- what holds of a reply in every legal log
 replied_by : (old : CoreLog) (q : PassView) (told : CoreStep) → Follows old q.seen q.number told → IsLegal q.seen → HasReplied q told

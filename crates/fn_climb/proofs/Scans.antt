@@ -25,11 +25,9 @@ use Rattle.fn_core.specs.Begin.{up_to, is_other, others, blocks_by, blocker_by, 
 use Rattle.fn_core.proofs.Tries.{range_end, filter_keeps, filter_skips}
 use Rattle.fn_table.specs.Seen.{TableView, PassView, IsOf, May, Stepped, own_of, event}
 use Rattle.fn_table.proofs.Spares.{level_case}
-use Rattle.fn_climb.specs.Steps.{IsLater}
 use Rattle.fn_climb.specs.Begin.{Taken, Takes, scan_taken, blocked_load, IsStill, RowTried}
-use Rattle.fn_climb.proofs.Onward.{later_by}
+use Rattle.fn_climb.proofs.Later.{later_by, later_on, of_later}
 use Rattle.fn_climb.proofs.Goes.{level_same}
-use Rattle.fn_climb.proofs.Sofar.{prefix_on}
 use Rattle.fn_climb.proofs.Along.{flat_map-one, yields, finds_first, Along, along_start, along_skip, along_past, along_stop, along_through}
 
 -- a function that is put where it stands
@@ -43,9 +41,6 @@ takes_more p q r (first ∷ ts) step n takes t = (takes.0, takes.1, takes_more t
 pub takes_on : (p q r : PassView) (ts us : List Taken) → Takes p ts q → Takes q us r → Takes p (ts ++ us) r
 takes_on p q r [] us is takes = subst (λ (v : PassView). Takes v us r) is takes
 takes_on p q r (first ∷ ts) us takes more = (takes.0, takes.1, takes_on takes.0 q r ts us takes.2 more)
-
-pub later_on : (p q r : PassView) → IsLater p q → IsLater q r → IsLater p r
-later_on p q r a b = record { table = b.table ∙ a.table; number = b.number ∙ a.number; start = b.start ∙ a.start; begins = prefix_on p.seen.log q.seen.log r.seen.log a.begins b.begins; legal = b.legal }
 
 pub still_on : (p q r : PassView) → IsStill p q → IsStill q r → IsStill p r
 still_on p q r a b = record { later = later_on p q r a.later b.later; caller = b.caller ∙ a.caller; stages = b.stages ∙ a.stages; ends = b.ends ∙ a.ends }
@@ -75,9 +70,6 @@ pub idle_still : (p q : PassView) → IsStill p q → IsIdle p.seen p.number →
 idle_still p q still idle = ap (λ (x : Caller). x.position) still.caller ∙ idle
 
 -- a pass stays one of its table
-pub of_later : (t : TableView) (p q : PassView) → IsLater p q → IsOf t p → IsOf t q
-of_later t p q later of = (later.table ∙ of.0, later.start ∙ of.1)
-
 pub of_still : (t : TableView) (p q : PassView) → IsStill p q → IsOf t p → IsOf t q
 of_still t p q still of = of_later t p q still.later of
 

@@ -1,5 +1,5 @@
 -- The steps of a poll so far: they are few, with at most one exchange among them, and what the last one tells is so from the first on.
-use Rattle.std.proofs.Common.{◌≡◌, ◌⊎◌, inl, inr, ⊎_elim, ℕ, suc, ◌+◌, ◌*◌, ◌<◌, ◌≤◌, Bool, true, false, List, [], ◌∷◌, ◌++◌, length, refl, sym, ◌∙◌, ap, subst, arith, length-append, append_assoc}
+use Rattle.std.proofs.Common.{◌≡◌, ◌⊎◌, inl, inr, ⊎_elim, ℕ, suc, ◌+◌, ◌*◌, ◌<◌, ◌≤◌, Bool, true, false, List, [], ◌∷◌, ◌++◌, length, refl, sym, ◌∙◌, ap, subst, arith, length-append}
 use Rattle.std.specs.Prelude.{if◌then◌else◌}
 use Rattle.std.proofs.lemmas.Bool.{false≢true}
 use Rattle.std.proofs.lemmas.Nat.{mul-le}
@@ -31,6 +31,7 @@ use Rattle.fn_table.specs.Seen.{PassView, event, with_log}
 use Rattle.fn_climb.specs.Next.{IsNext}
 use Rattle.fn_climb.specs.Steps.{HasSameCall, Went}
 use Rattle.fn_climb.specs.Turns.{GoesOn, Polled}
+use Rattle.fn_climb.proofs.Later.{prefix_on}
 use Rattle.fn_climb.proofs.Onward.{joined_from}
 
 -- no aggregator has more rows than all passes have
@@ -71,10 +72,6 @@ some_left core p n legal range u = ⊎_elim climbs decides (in_call core.start c
 
     decides : (kind : Kind) × (level word : ℕ) × ((s.callers p).position ≡ Deciding kind level word) → 1 ≤ steps_left core.start s p n
     decides (kind, level, word, is) = omega (arith, ap (steps_left_by core.start s p n) is)
-
--- what begins a list begins each that goes on from it
-pub prefix_on : (xs ys zs : List Event) → IsPrefix xs ys → IsPrefix ys zs → IsPrefix xs zs
-prefix_on xs ys zs (a, e) (b, f) = (a ++ b, sym (append_assoc xs a b) ∙ ap (λ (l : List Event). l ++ b) e ∙ f)
 
 -- a pass with another log
 abbrev pub at : PassView → List Event → PassView

@@ -25,6 +25,7 @@ pub enum Begun {
 }
 
 /// Begins a call: it waits at its leaf, or at some level each row of the pass is blocked.
+#[inline(always)]
 pub fn begin(table: &FunnelTable, mut pass: Pass, kind: Kind, amount: u64) -> Begun
     requires together { IsOf table.now pass }
     requires idle { IsIdle pass.seen pass.number }
@@ -39,6 +40,7 @@ pub fn begin(table: &FunnelTable, mut pass: Pass, kind: Kind, amount: u64) -> Be
 }
 
 // The call arrives at its leaf, with an open row for each level.
+#[inline(always)]
 fn arrive_at_leaf(
     table: &FunnelTable,
     mut pass: Pass,
@@ -148,10 +150,11 @@ fn try_row(
 }
 
 // Whether a pass is another one of the pass's aggregator.
+#[inline(always)]
 fn is_other(shape: Shape, level: u32, pass: u32, other: u32) -> bool
     requires level { IsLevel shape level }
     requires in_range { (pass < shape.passes) × (other < shape.passes) }
     ensures { result ≡ is_other shape level pass other }
 {
-    shape.aggregator_of(other, level) == shape.aggregator_of(pass, level) && other != pass
+    other != pass && shape.aggregator_of(other, level) == shape.aggregator_of(pass, level)
 }

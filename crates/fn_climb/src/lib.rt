@@ -9,12 +9,21 @@ mod polling;
 mod row_words;
 mod stepping;
 
+ghost use Rattle.fn_climb.specs.Later.{StepsAreLater, LaterPassesGoOn, LaterPassesStayAtTheirTable};
+
 pub use beginning::{Begun, begin};
 pub use fn_core::{Blocked, Why};
 pub use fn_layout::Kind;
 pub use fn_table::{FunnelTable, Pass};
 pub use pending::{Pending, Step};
 pub use polling::Turn;
+
+/// A pass has seen more after each of its steps, and after each in which it goes on from there, at the same table.
+pub fn later_passes()
+    ensures steps { StepsAreLater }
+    ensures go_on { LaterPassesGoOn }
+    ensures table { LaterPassesStayAtTheirTable }
+{}
 
 #[cfg(test)]
 mod tests;

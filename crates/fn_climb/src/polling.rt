@@ -17,6 +17,7 @@ pub enum Turn {
 
 impl Pending {
     /// Takes steps of the call up to the first that ends it or tells it to wait.
+    #[inline(always)]
     pub fn poll(self, table: &FunnelTable) -> Turn
         requires together { IsOf table.now self }
         ensures { PollAnswers self result }

@@ -1,5 +1,5 @@
 // The words by which rows are named on the table, and their numbers at an aggregator.
-ghost use Rattle.std.specs.Prelude.{◌≡◌, ◌/◌, ◌<◌, ℕ};
+ghost use Rattle.std.specs.Prelude.{◌≡◌, ◌/◌, ◌%◌, ◌<◌, ◌≤◌, ℕ};
 ghost use Rattle.fn_layout.specs.Tree.{members, IsLevel};
 ghost use Rattle.fn_layout.specs.Words.{IsAggregator, IsSlot};
 ghost use Rattle.fn_core.specs.Machine.{local_row};
@@ -10,15 +10,31 @@ ghost use Rattle.fn_climb.specs.Course.{IsLink};
 
 use fn_layout::{Kind, Shape};
 
+// How often one number is in another, and what is left, with no division where that is the number itself.
+#[inline(always)]
+fn parts(number: u64, by: u32) -> (u64, u64)
+    requires { 1 ≤ by }
+    ensures quotient { result.0 ≡ number / by }
+    ensures remainder { result.1 ≡ number % by }
+    ensures small { result.1 < by }
+{
+    let by = u64::from(by);
+    if number < by {
+        (0, number)
+    } else {
+        (number / by, number % by)
+    }
+}
+
 /// The row with this number at an aggregator, by its number in the layout.
 pub fn row_there(shape: Shape, kind: Kind, level: u32, index: u32, row: u64) -> u32
     requires aggregator { IsAggregator shape kind level index }
     requires owned { row / shape.rows < members shape level index }
     ensures { result ≡ row_there shape kind level index row }
 {
-    let rows = u64::from(shape.rows());
-    let pass = shape.pass_of(level, index, (row / rows) as u32);
-    shape.row_of(pass, kind, level, (row % rows) as u32)
+    let (member, rest) = parts(row, shape.rows());
+    let pass = shape.pass_of(level, index, member as u32);
+    shape.row_of(pass, kind, level, rest as u32)
 }
 
 /// The word that names a row on the table, by the word that names it at the aggregator.
@@ -42,14 +58,10 @@ pub fn row_read(shape: Shape, word: u64) -> u64
     if word == 0 {
         return 0;
     }
-    let row = word - 1;
-    let rows = u64::from(shape.rows());
-    let levels = u64::from(shape.levels());
-    let slot = row / rows;
-    let pass = slot / levels / 2;
-    let level = slot % levels + 1;
-    let member = shape.member(pass as u32, level as u32);
-    u64::from(member) * rows + row % rows + 1
+    let (slot, rest) = parts(word - 1, shape.rows());
+    let (pair, level) = parts(slot, shape.levels());
+    let member = shape.member((pair / 2) as u32, (level + 1) as u32);
+    u64::from(member) * u64::from(shape.rows()) + rest + 1
 }
 
 /// The row of a pass that has this number at its aggregator, by its number in the layout.
@@ -57,7 +69,7 @@ pub fn own_row(shape: Shape, pass: u32, kind: Kind, level: u32, row: u64) -> u32
     requires { IsSlot shape pass kind level }
     ensures { result ≡ own_row shape pass kind level row }
 {
-    let rest = row % u64::from(shape.rows());
+    let (_, rest) = parts(row, shape.rows());
     shape.row_of(pass, kind, level, rest as u32)
 }
 
@@ -66,6 +78,6 @@ pub fn local_row(shape: Shape, level: u32, pass: u32, row: u32) -> u64
     requires { (pass < shape.passes) × IsLevel shape level }
     ensures { result ≡ local_row shape level pass row }
 {
-    let rows = shape.rows();
-    u64::from(shape.member(pass, level) * rows + row % rows)
+    let (_, rest) = parts(u64::from(row), shape.rows());
+    u64::from(shape.member(pass, level)) * u64::from(shape.rows()) + rest
 }

@@ -12,7 +12,7 @@ use Rattle.fn_table.specs.Seen.{PassView}
 use Rattle.fn_climb.specs.Begin.{BeginAnswers}
 use Rattle.fn_climb.specs.Steps.{IsLater}
 use Rattle.fn_climb.specs.declared.beginning.Begun.TheVariants.{Waiting, NoRow}
-use Rattle.fn_climb.proofs.Scans.{later_on}
+use Rattle.fn_climb.proofs.Later.{later_on}
 use Rattle.fn_direct.specs.Called.{call_of, HasCalled}
 use Rattle.fn_direct.proofs.Joined.{called_since}
 use Rattle.fn_funnel.specs.declared.waiting.Way.{Way}

@@ -23,8 +23,7 @@ use Rattle.fn_table.specs.Seen.{PassView, own_of}
 use Rattle.fn_climb.specs.Begin.{HasBegun}
 use Rattle.fn_climb.specs.Steps.{IsLater, HasSameCall}
 use Rattle.fn_climb.specs.Turns.{Polled}
-use Rattle.fn_climb.proofs.Scans.{later_on}
-use Rattle.fn_climb.proofs.Sofar.{prefix_on}
+use Rattle.fn_climb.proofs.Later.{later_on}
 use Rattle.fn_direct.specs.Called.{call_of, HasCalled}
 use Rattle.fn_funnel.specs.Waiting.{PollsInVain}
 
@@ -92,7 +91,7 @@ module _ (p b u q : PassView) (kind : Kind) (amount reply : ℕ) (legal : IsLega
 
   beyond : (i : ℕ) → place p.number (call_of p kind amount).number (calls_in q.seen) ≡ Some i → length (calls_in p.seen) ≤ i
   beyond i at =
-      let behind : Stands (q.seen.start, q.number) = polled.replied.beyond p.seen.log (prefix_on p.seen.log u.seen.log q.seen.log later.begins polled.later.begins) in
+      let behind : Stands (q.seen.start, q.number) = polled.replied.beyond p.seen.log (let whole = later_on p u q later polled.later in whole.begins) in
       let here : Stands (p.seen.start, p.number) = subst Stands (λ j. (start j, number j)) behind in
       let numbered : (own_of q).caller.last.number ≡ (own_of p).caller.made = ap (λ (call : Call). call.number) last in
       here (omega (arith, numbered)) i (ap (λ (n : ℕ). place p.number n (calls_in q.seen)) numbered ∙ at)

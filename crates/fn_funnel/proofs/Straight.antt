@@ -9,8 +9,7 @@ use Rattle.fn_core.specs.declared.Purpose.TheVariants as purpose
 use Rattle.fn_core.specs.declared.Move.TheVariants.{Load, Exchange, Direct}
 use Rattle.fn_table.specs.Seen.{TableView, PassView, IsOf, own_of}
 use Rattle.fn_climb.specs.Steps.{IsLater}
-use Rattle.fn_climb.proofs.Onward.{later_by}
-use Rattle.fn_climb.proofs.Scans.{later_on, of_later}
+use Rattle.fn_climb.proofs.Later.{later_by, later_on, of_later}
 use Rattle.fn_direct.specs.declared.Lost.{Lost}
 use Rattle.fn_direct.specs.Called.{call_of, HasCalled, HasMadeNone, Tried}
 use Rattle.fn_direct.proofs.Joined.{none_made, called_since}

@@ -79,6 +79,7 @@ fn call<R: Wait>(rt: &R, table: &FunnelTable, pass: Pass, kind: Kind, amount: u6
 }
 
 // Polls a call until it has its reply.
+#[inline(always)]
 fn await_reply<R: Wait>(rt: &R, table: &FunnelTable, pending: Pending) -> (Pass, u64)
     requires together { IsOf table.now pending }
     ensures { IsAnswered pending result.1 result.0 }

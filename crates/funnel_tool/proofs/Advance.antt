@@ -11,7 +11,7 @@ use Rattle.fn_core.specs.State.{Caller as Standing}
 use Rattle.fn_core.specs.Calls.{Follows, IsIdle, left_of}
 use Rattle.fn_table.specs.Seen.{TableView, PassView, IsOf, Stored}
 use Rattle.fn_climb.specs.Steps.{IsLater}
-use Rattle.fn_climb.proofs.Onward.{later_by}
+use Rattle.fn_climb.proofs.Later.{later_by}
 use Rattle.fn_direct.specs.Called.{HasMadeNone, Tried}
 use Rattle.trace_text.specs.Order.{amount}
 use Rattle.trace_text.specs.Sound.{allowance}

@@ -16,7 +16,7 @@ use Rattle.fn_climb.specs.Begin.{HasBegun}
 use Rattle.fn_climb.specs.Steps.{HasSameCall, IsLater, Went}
 use Rattle.fn_climb.specs.Turns.{GoesOn, Polled}
 use Rattle.fn_core.specs.declared.Move.{Move}
-use Rattle.fn_climb.proofs.Onward.{later_by}
+use Rattle.fn_climb.proofs.Later.{later_by}
 use Rattle.fn_direct.specs.Called.{HasCalled, HasMadeNone, call_of}
 use Rattle.trace_text.specs.declared.scripts.Order.{Order}
 use Rattle.trace_text.specs.declared.scripts.Order.TheVariants as order

@@ -15,7 +15,7 @@ use Rattle.fn_core.specs.declared.Move.TheVariants.{Load}
 use Rattle.fn_core.specs.declared.Purpose.TheVariants as purpose
 use Rattle.fn_table.specs.Seen.{TableView, PassView, IsOf, Stepped}
 use Rattle.fn_climb.specs.Steps.{IsLater}
-use Rattle.fn_climb.proofs.Onward.{later_by}
+use Rattle.fn_climb.proofs.Later.{later_by}
 use Rattle.fn_direct.specs.Called.{call_of, HasCalled}
 use Rattle.fn_funnel.specs.declared.waiting.Added.{Added}
 use Rattle.fn_funnel.specs.Waiting.{Waited, IsStraight, is_one_step}

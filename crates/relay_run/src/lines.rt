@@ -43,6 +43,11 @@ pub enum LinesFault {
 }
 
 impl From<AllocError> for LinesFault {
+    ghost use Rattle.std.specs.Prelude.{◌≡◌};
+    ghost use Rattle.relay_run.specs.declared.lines.LinesFault.TheVariants as fault;
+
+    ghost from_gives = { λ _ e. e ≡ fault.NoMemory };
+
     fn from(_: AllocError) -> Self {
         LinesFault::NoMemory
     }

@@ -11,7 +11,7 @@ use Rattle.std.specs.Option.{option_map}
 use Rattle.fn_model.specs.declared.Call.{Call}
 use Rattle.fn_model.specs.Calls.{own, is_call, count, place}
 use Rattle.fn_model.specs.Integer.{after, value, before}
-use Rattle.fn_model.proofs.Calls.{reply_stays}
+use Rattle.fn_model.proofs.Calls.{reply_stays, first_beyond}
 use Rattle.fn_model.proofs.Histories.{no_count}
 use Rattle.fn_model.proofs.Integer.{value-append}
 use Rattle.fn_core.specs.declared.Start.{Start}
@@ -63,14 +63,6 @@ none_past n number (row ∷ rows) past =
 -- where a pass's own calls are those of rows, it has no call past their numbers
 pub no_call_past : (pass n number : ℕ) (calls : List Call) (rows : List Row) → own pass calls ≡ calls_from n rows → n + length rows ≤ number → count pass number calls ≡ 0
 no_call_past pass n number calls rows is past = count_own pass number calls ∙ ap (count_by (has_number number)) is ∙ none_past n number rows past
-
--- the first that passes a test, where none of the earlier calls does
-first_beyond : (p : Call → Bool) (past more : List Call) → count_by p past ≡ 0 → position_or_len p (past ++ more) ≡ length past + position_or_len p more
-first_beyond p [] more none = omega arith
-first_beyond p (call ∷ past) more none =
-    let all : count_by p (call ∷ past) ≡ cond (p call) 1 0 + count_by p past = sum_by-cons (λ c. cond (p c) 1 0) call past in
-    let rest : position_or_len p (past ++ more) ≡ length past + position_or_len p more = first_beyond p past more (omega arith) in
-    ap (λ (b : Bool). cond (not b) (1 + position_or_len p (past ++ more)) 0) (no_count (p call) (count_by p past) (sym all ∙ none)) ∙ omega arith
 
 -- a call's place behind calls that are others
 place_behind : (pass number : ℕ) (past more : List Call) (i : ℕ) → count pass number past ≡ 0 → place pass number more ≡ Some i → place pass number (past ++ more) ≡ Some (length past + i)

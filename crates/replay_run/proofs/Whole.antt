@@ -19,8 +19,7 @@ use Rattle.fn_core.specs.State.{State, opened, history_in}
 use Rattle.fn_core.specs.Machine.{Legal, run}
 use Rattle.fn_core.specs.Laws.{HasReply}
 use Rattle.fn_core.specs.Calls.{CoreLog, calls_in, IsLegal}
-use Rattle.fn_core.proofs.Orders.{logs_are_parted_and_joined, runs_go_on}
-use Rattle.fn_core.proofs.Grows.{histories_grow}
+use Rattle.fn_core.proofs.Orders.{histories_go_on}
 use Rattle.std.proofs.lemmas.List.{length-append, get_or_append_left}
 use Rattle.fn_core.specs.declared.Move.TheVariants.{Glance}
 use Rattle.fn_table.specs.Seen.{TableView, PassView, fresh, event}
@@ -29,7 +28,7 @@ use Rattle.fn_funnel.specs.declared.waiting.Way.{Way}
 use Rattle.fn_funnel.proofs.Calls.{entered_stays}
 use Rattle.fn_core.proofs.Entered.{entries_stay}
 use Rattle.quota_pool.specs.Calls.{EntersBy}
-use Rattle.fn_climb.proofs.Sofar.{prefix_on}
+use Rattle.fn_climb.proofs.Later.{prefix_on}
 use Rattle.quota_pool.specs.Views.{PoolView, DeskView, Belongs, left_at, left_in}
 use Rattle.quota_pool.specs.Opened.{fresh_desk, OpensWith, IsNew}
 use Rattle.quota_pool.specs.Closed.{passes_at, ClosesWith, AreClosed}
@@ -126,15 +125,13 @@ passes_found tenant (first ∷ ds) all (suc k) d q is at =
 -- a reply stays what its call meets while the history grows
 pub reply_later : (start : Start) (first log : List Event) (call : Call) (n : ℕ) → (let old : CoreLog = record { start = start; log = first } in let new : CoreLog = record { start = start; log = log } in
     IsLegal old → IsLegal new → IsPrefix first log → HasReply start (calls_in old) call n → HasReply start (calls_in new) call n)
-reply_later start first log call n legal longer (more, whole) has =
+reply_later start first log call n legal longer begins has =
     let old : CoreLog = record { start = start; log = first } in
+    let new : CoreLog = record { start = start; log = log } in
     let past : List Call = calls_in old in
-    let parts = (logs_are_parted_and_joined start first more (opened start)).0 (subst (λ (l : List Event). Legal start l (opened start)) (sym whole) longer.1) in
-    let further = histories_grow start first legal.0 legal.1 more parts.1 in
-    let there : history_in start (run start log (opened start)) ≡ past ++ further.0 =
-    ap (λ (l : List Event). history_in start (run start l (opened start))) (sym whole) ∙ ap (λ (s : State). history_in start s) (runs_go_on start first more (opened start)) ∙ further.1 in
+    let further = histories_go_on old new longer refl begins in
     let stays = reply_stays start.cap start.opening call.pass call.number past further.0 has.0 has.1 in
-    subst (λ (calls : List Call). HasReply start calls call n) (sym there)
+    subst (λ (calls : List Call). HasReply start calls call n) further.1
     (has.0, stays.0, (let size = length-append past further.0 in let within = has.2 in omega arith), get_or_append_left past further.0 call has.0 has.2 ∙ has.3, stays.1 ∙ has.4)
 
 -- and a call stays entered as its way has it

@@ -14,8 +14,7 @@ use Rattle.fn_core.specs.declared.Event.{Event}
 use Rattle.fn_core.specs.State.{State, opened, history_in}
 use Rattle.fn_core.specs.Machine.{Legal, run}
 use Rattle.fn_core.specs.Calls.{CoreLog, calls_in, IsLegal}
-use Rattle.fn_core.proofs.Grows.{histories_grow}
-use Rattle.fn_core.proofs.Orders.{logs_are_parted_and_joined, runs_go_on}
+use Rattle.fn_core.proofs.Orders.{histories_go_on}
 use Rattle.fn_table.specs.Seen.{PassView}
 use Rattle.fn_direct.specs.Called.{call_of}
 use Rattle.fn_funnel.specs.declared.waiting.Added.{Added}
@@ -29,19 +28,9 @@ use Rattle.tq_queue.specs.Moves.{HasMissed, Placed, Taken}
 use Rattle.tq_queue.specs.Kept.{own_answers, own_puts, own_takes, tickets_put, tickets_taken, ticket_put, ticket_taken}
 use Rattle.tq_queue.proofs.Growing.{answers_stay, answers_push}
 
--- the history of a log begins that of each log that goes on from it
-grown_log : (start : Start) (first log : List Event) → (let core : CoreLog = record { start = start; log = log } in IsLegal core) → IsPrefix first log
-    → (more : List Call) × ((let now : CoreLog = record { start = start; log = log } in calls_in now) ≡ (let was : CoreLog = record { start = start; log = first } in calls_in was) ++ more)
-grown_log start first log legal begins =
-    let parts = (logs_are_parted_and_joined start first begins.0 (opened start)).0 (subst (λ (l : List Event). Legal start l (opened start)) (sym begins.1) legal.1) in
-    let further = histories_grow start first legal.0 parts.0 begins.0 parts.1 in
-    (further.0, ap (λ (l : List Event). history_in start (run start l (opened start))) (sym begins.1) ∙ ap (λ (s : State). history_in start s) (runs_go_on start first begins.0 (opened start)) ∙ further.1)
-
-pub grown : (old new : CoreLog) → new.start ≡ old.start → IsLegal new → IsPrefix old.log new.log → (more : List Call) × (calls_in new ≡ calls_in old ++ more)
-grown old new same legal begins =
-    let was : Start → CoreLog = λ start. record { start = start; log = old.log } in
-    let further = grown_log new.start old.log new.log legal begins in
-    (further.0, further.1 ∙ ap (λ (start : Start). calls_in (was start) ++ further.0) same)
+-- the history of a log that goes on from another
+grown : (old new : CoreLog) → new.start ≡ old.start → IsLegal new → IsPrefix old.log new.log → (more : List Call) × (calls_in new ≡ calls_in old ++ more)
+grown old new same legal begins = let further = histories_go_on old new legal same begins in (further.0, sym further.1)
 
 -- the answers of a pass are the same in each later history to which it has added no call
 pub answers_kept : (number : ℕ) (old new : CoreLog) → new.start ≡ old.start → IsLegal new → IsPrefix old.log new.log → own number (calls_in new) ≡ own number (calls_in old)

@@ -1,5 +1,5 @@
 use Rattle.std.proofs.Common.{◌++◌, ◌∷◌, []}
-use Rattle.fn_climb.proofs.Scans.{of_later}
+use Rattle.fn_climb.proofs.Later.{of_later}
 use Rattle.fn_funnel.proofs.Funnelled.{polls_more}
 use Rattle.fn_funnel.proofs.waiting.await_reply.Goals as goal
 
