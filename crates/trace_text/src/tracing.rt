@@ -1,5 +1,5 @@
 //! Reading a trace: record by record, up to the first fault.
-ghost use Rattle.std.specs.Prelude.{◌≡◌, ◌≤◌, ◌+◌, Ok, Err, IfOk, OnOk};
+ghost use Rattle.std.specs.Prelude.{◌≡◌, ◌≤◌, ◌+◌, Ok, Err, None, IfOk, OnOk};
 ghost use Rattle.csv.specs.Records.{fields_of};
 ghost use Rattle.trace_text.specs.Accounts.{AreHeld};
 ghost use Rattle.trace_text.specs.Fields.{field};
@@ -7,12 +7,13 @@ ghost use Rattle.trace_text.specs.SoundTrace.{IsSoundTrace};
 ghost use Rattle.trace_text.specs.TraceFaults.{FirstRecordIsAtFault, NoRecordIsAtFault, RecordFaultsAreFirst};
 ghost use Rattle.trace_text.specs.Trace.{Becomes, Gives, acted, called, content, content_of, opened, place_of, record_after, records_after, settled, start, state_of, trace_of, unnamed, within};
 
+use crate::accounts::Accounts;
 use crate::fields::{
     Action, Format, action_of, amount_of, cap_of, field, format_of, is_tenant, width, worker_of,
 };
 use crate::pieces::MOST_NUMBER;
 use crate::records::Records;
-use crate::tenants::{Account, MOST_TENANTS, account_of, place_of, settle_all, spend};
+use crate::tenants::MOST_TENANTS;
 use crate::traces::{Cut, Op, Row, Trace, TraceFault};
 use csv::ByteRecord;
 use std::alloc::Global;
@@ -26,7 +27,7 @@ pub const MOST_CUTS: usize = 100;
 /// What is known after some records.
 #[derive(Drop)]
 pub struct Ledger {
-    pub accounts: Vec<Account>,
+    pub accounts: Accounts,
     pub rows: Vec<Row>,
     pub cuts: Vec<Cut>,
 }
@@ -54,10 +55,11 @@ fn check_within(at: u64, room: bool) -> Result<(), TraceFault>
 
 // Refuses the name of a tenant that is open already.
 #[tactic(auto, unfolding(crate::specs::Trace::unnamed))]
-fn check_unnamed(at: u64, name: &[u8], accounts: &[Account]) -> Result<(), TraceFault>
-    ensures { result ≡ unnamed at (place_of name.now accounts.now) }
+fn check_unnamed(at: u64, name: &[u8], accounts: &Accounts) -> Result<(), TraceFault>
+    ensures exact { result ≡ unnamed at (place_of name.now accounts.now) }
+    ensures fresh { OnOk result (place_of name.now accounts.now ≡ None) }
 {
-    match place_of(name, accounts) {
+    match accounts.place_of(name) {
         None => Ok(()),
         Some(_) => Err(TraceFault::Again { at }),
     }
@@ -85,11 +87,8 @@ fn open(
     let Some(cap) = cap_of(format, Action::Open, opening, field(row, 4)) else {
         return Err(TraceFault::Cap { at });
     };
-    let account = account_of(alloc, name, opening, cap)?;
-    match ledger.accounts.push(account) {
-        Ok(()) => Ok(()),
-        Err(_) => Err(TraceFault::NoMemory),
-    }
+    ledger.accounts.open(alloc, name, opening, cap)?;
+    Ok(())
 }
 
 // Ends a segment.
@@ -101,7 +100,7 @@ fn cut(ledger: &mut Ledger, format: Format, at: u64, row: &ByteRecord) -> Result
     if cap_of(format, Action::Settle, 0, field(row, 4)).is_none() {
         return Err(TraceFault::Cap { at });
     }
-    settle_all(&mut ledger.accounts);
+    ledger.accounts.settle();
     let rows = ledger.rows.len() as u64;
     match ledger.cuts.push(Cut { at, rows }) {
         Ok(()) => Ok(()),
@@ -118,16 +117,16 @@ fn call(
     op: Op,
     row: &ByteRecord,
 ) -> Result<(), TraceFault>
-    requires held { AreHeld ledger.old.accounts.items }
+    requires held { AreHeld ledger.old.accounts }
     requires amount { entry.amount ≤ MOST_NUMBER }
     ensures { Becomes result (called format entry.at entry.worker op (field (fields_of row.now) 2) entry.amount (field (fields_of row.now) 4) (state_of ledger.old)) ledger.new }
 {
     let Entry { at, worker, amount } = entry;
-    let Some(place) = place_of(field(row, 2), &ledger.accounts) else {
+    let Some(place) = ledger.accounts.place_of(field(row, 2)) else {
         return Err(TraceFault::Unknown { at });
     };
     check_within(at, true)?;
-    spend(&mut ledger.accounts[place], at, op, amount)?;
+    ledger.accounts.spend(place, at, op, amount)?;
     if cap_of(format, Action::Call(op), amount, field(row, 4)).is_none() {
         return Err(TraceFault::Cap { at });
     }
@@ -154,7 +153,7 @@ fn act(
     action: Action,
     row: &ByteRecord,
 ) -> Result<(), TraceFault>
-    requires held { AreHeld ledger.old.accounts.items }
+    requires held { AreHeld ledger.old.accounts }
     requires amount { entry.amount ≤ MOST_NUMBER }
     ensures { Becomes result (acted format entry.at entry.worker action entry.amount (fields_of row.now) (state_of ledger.old)) ledger.new }
 {
@@ -175,7 +174,7 @@ pub fn take_record(
     at: u64,
     row: &ByteRecord,
 ) -> Result<(), TraceFault>
-    requires held { AreHeld ledger.old.accounts.items }
+    requires held { AreHeld ledger.old.accounts }
     ensures { Becomes result (record_after format workers at (fields_of row.now) (state_of ledger.old)) ledger.new }
 {
     if row.len() != width(format) {
@@ -242,7 +241,7 @@ fn read_records(
     let mut records = records;
     let mut row = ByteRecord::new(alloc);
     let mut ledger = Ledger {
-        accounts: Vec::new(alloc),
+        accounts: Accounts::new(alloc),
         rows: Vec::new(alloc),
         cuts: Vec::new(alloc),
     };
@@ -259,7 +258,7 @@ fn trace_in(alloc: Global, ledger: Ledger) -> Result<Trace, TraceFault>
     ensures { Gives content result (Ok (content_of (state_of ledger))) }
 {
     let mut tenants = Vec::new(alloc);
-    for account in ledger.accounts {
+    for account in ledger.accounts.into_items() {
         match tenants.push(account.tenant) {
             Ok(()) => {}
             Err(_) => return Err(TraceFault::NoMemory),
