@@ -24,6 +24,9 @@ pub const MOST_RECORDS: u64 = 1_000_000;
 /// The most cuts of a trace.
 pub const MOST_CUTS: usize = 100;
 
+// The bytes that a row seldom falls below, by which room for rows is made before the first one.
+const ROW_BYTES: usize = 16;
+
 /// What is known after some records.
 #[derive(Drop)]
 pub struct Ledger {
@@ -216,7 +219,8 @@ pub fn read_trace(alloc: Global, workers: u32, bytes: &[u8]) -> Result<Trace, Tr
     let Some(format) = format_of(&row) else {
         return Err(TraceFault::Header { at: 0 });
     };
-    let ledger = read_records(alloc, format, workers, records)?;
+    let room = (bytes.len() / ROW_BYTES).min(MOST_RECORDS as usize);
+    let ledger = read_records(alloc, format, workers, records, room)?;
     trace_in(alloc, ledger)
 }
 
@@ -228,12 +232,13 @@ pub fn trace_fault_laws()
     ensures no_record_is_at_fault { NoRecordIsAtFault }
 {}
 
-// Reads the records after the first one.
+// Reads the records after the first one, with room for so many rows to begin with.
 fn read_records(
     alloc: Global,
     format: Format,
     workers: u32,
     records: Records<'_>,
+    room: usize,
 ) -> Result<Ledger, TraceFault>
     ensures exact { Gives state_of result (records_after format workers 1 records.entry start) }
     ensures sound { IfOk result (λ ledger. IsSoundTrace workers (content_of (state_of ledger))) }
@@ -242,7 +247,7 @@ fn read_records(
     let mut row = ByteRecord::new(alloc);
     let mut ledger = Ledger {
         accounts: Accounts::new(alloc),
-        rows: Vec::new(alloc),
+        rows: Vec::with_capacity(alloc, room)?,
         cuts: Vec::new(alloc),
     };
     let mut at = 0;
