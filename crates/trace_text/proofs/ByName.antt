@@ -1,12 +1,13 @@
 -- Tenants are found by their names alone, also after one more is opened.
-use Rattle.std.proofs.Common.{◌≡◌, ℕ, ◌+◌, ◌<◌, Bool, true, false, cond, not, List, [], ◌∷◌, ◌++◌, length, length-append, map, get_or, set, Some, None, refl, sym, ap, subst, ◌∙◌, arith, Option, IfSome}
+use Rattle.std.proofs.Common.{◌≡◌, ℕ, ◌+◌, ◌<◌, Bool, true, false, cond, not, List, [], ◌∷◌, ◌++◌, length, length-append, map, get_or, set, Some, None, refl, sym, ap, subst, ◌∙◌, arith, Option, IfSome, is_some}
 use Rattle.std.specs.HashMap.{HashMap, UpdatesBy, get_by}
 use Rattle.std.specs.List.{position, prefix_len}
 use Rattle.std.specs.Str.{bytes_eq}
 use Rattle.std.specs.declared.vec.Vec.{Vec}
 use Rattle.std.proofs.Common.{inl, inr}
-use Rattle.std.proofs.lemmas.Bool.{cases_Bool}
+use Rattle.std.proofs.lemmas.Bool.{cases_Bool, false≢true}
 use Rattle.std.proofs.lemmas.List.{length-map, map-append}
+use Rattle.std.proofs.lemmas.List.Elements.{All-push}
 use Rattle.std.proofs.lemmas.List.Folds.{position_or_len_push}
 use Rattle.std.proofs.lemmas.List.Quantifiers.{position-Some}
 use Rattle.std.proofs.lemmas.List.Sums.{prefix_len-le-length}
@@ -14,7 +15,8 @@ use Rattle.std.proofs.lemmas.Grind.{common_steps}
 use Rattle.std.specs.Cmp.Lexicographic.{bytes_decides, nat_list_eq_equiv}
 use Rattle.std.specs.Map.{AreApart, IsKeyTest, KeepsOthers, lookup}
 use Rattle.std.proofs.Math.Seq.{map-set_same}
-use Rattle.trace_text.specs.Places.{ArePlaced, names_of}
+use Rattle.trace_text.specs.Fields.{is_name}
+use Rattle.trace_text.specs.Places.{AreNames, ArePlaced, names_of}
 use Rattle.trace_text.specs.Trace.{account_settled, no_account, place_of}
 use Rattle.trace_text.specs.declared.tenants.Account.{Account}
 
@@ -28,8 +30,8 @@ pub place_of-names : (name : List ℕ) (accounts : List Account) → position (�
 place_of-names name accounts =
     rw (prefix_len-map (λ other. not (bytes_eq other name)) (λ (account : Account). account.tenant.name) accounts, length-map accounts (λ (account : Account). account.tenant.name)) refl
 
--- the map stays right where all names stay
-pub ArePlaced-same : {Y S : Type 0} (old new : List (List ℕ)) (places : HashMap (Vec ℕ Y) ℕ S) → new ≡ old → ArePlaced old places → ArePlaced new places
+-- names stay, and the map stays right, where all names are the same
+pub ArePlaced-same : {Y S : Type 0} (old new : List (List ℕ)) (places : HashMap (Vec ℕ Y) ℕ S) → new ≡ old → ArePlaced old places × AreNames old → ArePlaced new places × AreNames new
 ArePlaced-same old new places same placed = rw same placed
 
 -- a segment's end keeps all names
@@ -86,11 +88,20 @@ pub place_of-within : (name : List ℕ) (accounts : List Account) (found : Optio
 place_of-within name accounts None is = tt
 place_of-within name accounts (Some place) is = (position-Some (λ (account : Account). bytes_eq account.tenant.name name) accounts place no_account (sym is)).0
 
--- the map is right after one more tenant is opened
+-- a tenant that is found has a name
+pub place_of-named : (name : List ℕ) (accounts : List Account) (found : Option ℕ) → AreNames (names_of accounts) → found ≡ place_of name accounts → is_some found ≡ true → is_name name ≡ true
+place_of-named name accounts None named is there = absurd (false≢true there)
+place_of-named name accounts (Some place) named is there =
+    let at = position-Some (λ other. bytes_eq other name) (names_of accounts) place [] (place_of-names name accounts ∙ sym is) in
+    subst (λ (found : List ℕ). is_name found ≡ true) ((bytes_decides (get_or (names_of accounts) place []) name).0 at.1) (named place [] at.0)
+
+-- names stay, and the map is right, after one more tenant is opened
 pub ArePlaced-opened : {Y S : Type 0} (accounts : List Account) (account : Account) (key : Vec ℕ Y) (place : ℕ) (old new : HashMap (Vec ℕ Y) ℕ S) → key.items ≡ account.tenant.name → place ≡ length accounts
-    → place_of account.tenant.name accounts ≡ None → UpdatesBy (λ x y. bytes_eq x.items y.items) (λ other. bytes_eq key.items other.items) old new (Some place)
-    → ArePlaced (names_of accounts) old → ArePlaced (names_of (accounts ++ account ∷ [])) new
-ArePlaced-opened accounts account key place old new copied last fresh updates placed =
+    → is_name account.tenant.name ≡ true → place_of account.tenant.name accounts ≡ None → UpdatesBy (λ x y. bytes_eq x.items y.items) (λ other. bytes_eq key.items other.items) old new (Some place)
+    → ArePlaced (names_of accounts) old × AreNames (names_of accounts) → ArePlaced (names_of (accounts ++ account ∷ [])) new × AreNames (names_of (accounts ++ account ∷ []))
+ArePlaced-opened accounts account key place old new copied last named fresh updates placed =
     let count : place ≡ length (names_of accounts) = last ∙ sym (length-map accounts (λ (account : Account). account.tenant.name)) in
-    rw (map-append (λ (account : Account). account.tenant.name) accounts (account ∷ []))
-    (ArePlaced-more (names_of accounts) account.tenant.name old new (place_of-names account.tenant.name accounts ∙ fresh) (rw (copied, count) at updates) placed)
+    rw (map-append (λ (account : Account). account.tenant.name) accounts (account ∷ [])) (
+      ArePlaced-more (names_of accounts) account.tenant.name old new (place_of-names account.tenant.name accounts ∙ fresh) (rw (copied, count) at updates) placed.0,
+      All-push (λ name. is_name name ≡ true) (names_of accounts) account.tenant.name placed.1 named,
+    )

@@ -1,6 +1,7 @@
 //! The accounts of a trace while it is read, which are found by their names.
-ghost use Rattle.std.specs.Prelude.{◌≡◌, ◌≤◌, ◌<◌, ◌++◌, ◌∷◌, [], Ok, None, IfSome, OnOk, MatchResult, length, map, slice_set};
+ghost use Rattle.std.specs.Prelude.{◌≡◌, ◌≤◌, ◌<◌, ◌++◌, ◌∷◌, [], true, is_some, Ok, None, IfSome, OnOk, MatchResult, length, map, slice_set};
 ghost use Rattle.trace_text.specs.Accounts.{AreHeld};
+ghost use Rattle.trace_text.specs.Fields.{is_name};
 ghost use Rattle.trace_text.specs.Trace.{Fails, account_at, account_of, account_settled, place_of, spent};
 
 use crate::pieces::MOST_NUMBER;
@@ -20,14 +21,14 @@ pub struct Accounts {
 
 impl Model for Accounts {
     ghost use Rattle.std.specs.Prelude.{List};
-    ghost use Rattle.trace_text.specs.Places.{ArePlaced, names_of};
+    ghost use Rattle.trace_text.specs.Places.{AreNames, ArePlaced, names_of};
     ghost use Rattle.trace_text.specs.declared.tenants.Account.{Account};
 
     ghost Value = { List Account };
 
     ghost view = { λ accounts. accounts.items.items };
 
-    ghost invariant = { λ accounts. ArePlaced (names_of accounts.items.items) accounts.places };
+    ghost invariant = { λ accounts. ArePlaced (names_of accounts.items.items) accounts.places × AreNames (names_of accounts.items.items) };
 }
 
 impl Accounts {
@@ -52,6 +53,7 @@ impl Accounts {
     pub fn place_of(&self, name: &[u8]) -> Option<usize>
         ensures exact { result ≡ place_of name.now self.now }
         ensures within { IfSome result (λ place. place < length self.now) }
+        ensures named { is_some result ≡ true → is_name name.now ≡ true }
     {
         self.places.get(name).copied()
     }
@@ -64,6 +66,7 @@ impl Accounts {
         opening: u64,
         cap: u64,
     ) -> Result<(), NoMemory>
+        requires named { is_name name.now ≡ true }
         requires fresh { place_of name.now self.old ≡ None }
         ensures { OnOk result (self.new ≡ self.old ++ account_of name.now opening cap ∷ []) }
     {

@@ -1,10 +1,11 @@
 //! Reading a trace: record by record, up to the first fault.
-ghost use Rattle.std.specs.Prelude.{◌≡◌, ◌≤◌, ◌+◌, Ok, Err, None, IfOk, OnOk};
+ghost use Rattle.std.specs.Prelude.{◌≡◌, ◌≤◌, ◌<◌, ◌+◌, true, length, Ok, Err, None, IfOk, IfSome, OnOk};
 ghost use Rattle.csv.specs.Records.{fields_of};
 ghost use Rattle.trace_text.specs.Accounts.{AreHeld};
-ghost use Rattle.trace_text.specs.Fields.{field};
+ghost use Rattle.trace_text.specs.Fields.{field, is_tenant};
 ghost use Rattle.trace_text.specs.SoundTrace.{IsSoundTrace};
 ghost use Rattle.trace_text.specs.TraceFaults.{FirstRecordIsAtFault, NoRecordIsAtFault, RecordFaultsAreFirst};
+ghost use Rattle.trace_text.specs.declared.fields.Action.TheVariants.{Open};
 ghost use Rattle.trace_text.specs.Trace.{Becomes, Gives, acted, called, content, content_of, opened, place_of, record_after, records_after, settled, start, state_of, trace_of, unnamed, within};
 
 use crate::accounts::Accounts;
@@ -35,11 +36,12 @@ pub struct Ledger {
     pub cuts: Vec<Cut>,
 }
 
-// What a record says beside its action and its tenant.
+// What a record says beside its action, with the place of the tenant that it names.
 #[derive(Clone, Copy)]
 struct Entry {
     at: u64,
     worker: u32,
+    place: Option<usize>,
     amount: u64,
 }
 
@@ -58,18 +60,18 @@ fn check_within(at: u64, room: bool) -> Result<(), TraceFault>
 
 // Refuses the name of a tenant that is open already.
 #[tactic(auto, unfolding(crate::specs::Trace::unnamed))]
-fn check_unnamed(at: u64, name: &[u8], accounts: &Accounts) -> Result<(), TraceFault>
-    ensures exact { result ≡ unnamed at (place_of name.now accounts.now) }
-    ensures fresh { OnOk result (place_of name.now accounts.now ≡ None) }
+fn check_unnamed(at: u64, place: Option<usize>) -> Result<(), TraceFault>
+    ensures exact { result ≡ unnamed at place }
+    ensures fresh { OnOk result (place ≡ None) }
 {
-    match accounts.place_of(name) {
+    match place {
         None => Ok(()),
         Some(_) => Err(TraceFault::Again { at }),
     }
 }
 
 // Opens a tenant.
-#[tactic(auto, unfolding(crate::specs::Trace::opened))]
+#[tactic(auto, unfolding(crate::specs::Trace::opened, crate::specs::Fields::is_tenant))]
 fn open(
     ledger: &mut Ledger,
     alloc: Global,
@@ -77,15 +79,18 @@ fn open(
     entry: Entry,
     row: &ByteRecord,
 ) -> Result<(), TraceFault>
+    requires place { entry.place ≡ place_of (field (fields_of row.now) 2) ledger.old.accounts }
+    requires named { is_tenant Open (field (fields_of row.now) 2) ≡ true }
     ensures { Becomes result (opened format entry.at (field (fields_of row.now) 2) entry.amount (field (fields_of row.now) 4) (state_of ledger.old)) ledger.new }
 {
     let Entry {
         at,
+        place,
         amount: opening,
         ..
     } = entry;
     let name = field(row, 2);
-    check_unnamed(at, name, &ledger.accounts)?;
+    check_unnamed(at, place)?;
     check_within(at, ledger.accounts.len() < MOST_TENANTS)?;
     let Some(cap) = cap_of(format, Action::Open, opening, field(row, 4)) else {
         return Err(TraceFault::Cap { at });
@@ -121,11 +126,18 @@ fn call(
     row: &ByteRecord,
 ) -> Result<(), TraceFault>
     requires held { AreHeld ledger.old.accounts }
+    requires place { entry.place ≡ place_of (field (fields_of row.now) 2) ledger.old.accounts }
+    requires within { IfSome entry.place (λ place. place < length ledger.old.accounts) }
     requires amount { entry.amount ≤ MOST_NUMBER }
     ensures { Becomes result (called format entry.at entry.worker op (field (fields_of row.now) 2) entry.amount (field (fields_of row.now) 4) (state_of ledger.old)) ledger.new }
 {
-    let Entry { at, worker, amount } = entry;
-    let Some(place) = ledger.accounts.place_of(field(row, 2)) else {
+    let Entry {
+        at,
+        worker,
+        place,
+        amount,
+    } = entry;
+    let Some(place) = place else {
         return Err(TraceFault::Unknown { at });
     };
     check_within(at, true)?;
@@ -157,7 +169,10 @@ fn act(
     row: &ByteRecord,
 ) -> Result<(), TraceFault>
     requires held { AreHeld ledger.old.accounts }
+    requires place { entry.place ≡ place_of (field (fields_of row.now) 2) ledger.old.accounts }
+    requires within { IfSome entry.place (λ place. place < length ledger.old.accounts) }
     requires amount { entry.amount ≤ MOST_NUMBER }
+    requires named { is_tenant action (field (fields_of row.now) 2) ≡ true }
     ensures { Becomes result (acted format entry.at entry.worker action entry.amount (fields_of row.now) (state_of ledger.old)) ledger.new }
 {
     match action {
@@ -189,13 +204,20 @@ pub fn take_record(
     let Some(action) = action_of(format, field(row, 1)) else {
         return Err(TraceFault::Op { at });
     };
-    if !is_tenant(action, field(row, 2)) {
+    let name = field(row, 2);
+    let place = ledger.accounts.place_of(name);
+    if !is_tenant(action, name, place.is_some()) {
         return Err(TraceFault::Tenant { at });
     }
     let Some(amount) = amount_of(action, field(row, 3)) else {
         return Err(TraceFault::Amount { at });
     };
-    let entry = Entry { at, worker, amount };
+    let entry = Entry {
+        at,
+        worker,
+        place,
+        amount,
+    };
     act(ledger, alloc, format, entry, action, row)
 }
 
