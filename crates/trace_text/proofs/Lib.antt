@@ -1,4 +1,5 @@
 pub mod Allowed
+pub mod ByName
 pub mod Cells
 pub mod Cutting
 pub mod DrillSums

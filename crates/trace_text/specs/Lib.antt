@@ -6,6 +6,7 @@ pub mod Grammar
 pub mod Laws
 pub mod Left
 pub mod Order
+pub mod Places
 pub mod Records
 pub mod Script
 pub mod Sound

@@ -162,7 +162,7 @@ Gives view (Err found) read = Fails found read
 
 -- what a ledger in memory holds
 abbrev pub state_of : Ledger → State
-state_of ledger = record { accounts = ledger.accounts.items; rows = ledger.rows.items; cuts = ledger.cuts.items }
+state_of ledger = record { accounts = ledger.accounts; rows = ledger.rows.items; cuts = ledger.cuts.items }
 
 -- a ledger became what a reading gives, unless memory ran out
 abbrev pub Becomes : Result (Unit {0}) TraceFault → Result State TraceFault → Ledger → Type 0

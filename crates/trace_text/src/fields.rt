@@ -1,5 +1,5 @@
 //! The fields of a record of a trace, one by one.
-ghost use Rattle.std.specs.Prelude.{◌≡◌, ◌≤◌, length, IfSome, option_map};
+ghost use Rattle.std.specs.Prelude.{◌≡◌, ◌≤◌, true, length, IfSome, option_map};
 ghost use Rattle.std.specs.List.{list_all};
 ghost use Rattle.csv.specs.Records.{fields_of};
 ghost use Rattle.trace_text.specs.Fields.{action_of, amount_of, cap_of, field, format_of, is_name, is_name_byte, is_tenant, names_four, width, worker_of};
@@ -106,14 +106,15 @@ pub fn action_of(format: Format, word: &[u8]) -> Option<Action>
     }
 }
 
-/// Whether a word is the tenant that an action has.
+/// Whether a word is the tenant that an action has, where it may be known that it is a name.
 #[tactic(auto, unfolding(crate::specs::Fields::is_tenant))]
-pub fn is_tenant(action: Action, word: &[u8]) -> bool
+pub fn is_tenant(action: Action, word: &[u8], known: bool) -> bool
+    requires { known ≡ true → is_name word.now ≡ true }
     ensures { result ≡ is_tenant action word.now }
 {
     match action {
         Action::Settle => word == b"-".as_slice(),
-        Action::Open | Action::Call(_) => is_name(word),
+        Action::Open | Action::Call(_) => known || is_name(word),
     }
 }
 

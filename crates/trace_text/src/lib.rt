@@ -1,6 +1,7 @@
 //! Scripts and traces: what a text says, or its first fault.
 #![tactic(auto)]
 
+mod accounts;
 mod drill;
 mod fields;
 mod headers;

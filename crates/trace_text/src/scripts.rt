@@ -71,6 +71,10 @@ pub struct Script {
 pub struct NoMemory;
 
 impl From<AllocError> for NoMemory {
+    ghost use Rattle.std.specs.Prelude.{◌≡◌};
+
+    ghost from_gives = { λ _ e. e ≡ record {} };
+
     fn from(_: AllocError) -> Self {
         NoMemory
     }

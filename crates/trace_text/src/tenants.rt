@@ -1,12 +1,11 @@
 //! The tenants of a trace while it is read, with the bounds of their values.
-ghost use Rattle.std.specs.Prelude.{◌≡◌, ◌≤◌, ◌<◌, ◌+◌, ◌^◌, ◌++◌, ◌∷◌, [], Ok, Some, None, IfOk, OnOk, IfSome, MatchResult, length, map, slice_set};
-ghost use Rattle.std.specs.List.{All};
+ghost use Rattle.std.specs.Prelude.{◌≡◌, ◌≤◌, Ok, IfOk, MatchResult, map};
 ghost use Rattle.trace_text.specs.Accounts.{IsHeld};
-ghost use Rattle.trace_text.specs.Trace.{Fails, Gives, account_after, account_at, account_of, account_settled, added, place_of, spent};
+ghost use Rattle.trace_text.specs.Trace.{Fails, account_of, account_settled, added, spent};
 
 use crate::pieces::MOST_NUMBER;
 use crate::traces::{Name, Op, Tenant, TraceFault};
-use std::alloc::Global;
+use std::alloc::{AllocError, Global};
 
 /// The most tenants of a trace.
 pub const MOST_TENANTS: usize = 256;
@@ -21,18 +20,9 @@ pub struct Account {
     pub used: u64,
 }
 
-/// The place of the tenant with a name.
-pub fn place_of(name: &[u8], accounts: &[Account]) -> Option<usize>
-    ensures { result ≡ place_of name.now accounts.now }
-{
-    accounts
-        .iter()
-        .position(|account| account.tenant.name.items.as_slice() == name)
-}
-
 /// The account of a tenant that is opened.
-pub fn account_of(alloc: Global, name: &[u8], opening: u64, cap: u64) -> Result<Account, TraceFault>
-    ensures { Gives (λ a. a) result (Ok (account_of name.now opening cap)) }
+pub fn account_of(alloc: Global, name: &[u8], opening: u64, cap: u64) -> Result<Account, AllocError>
+    ensures { IfOk result (λ account. account ≡ account_of name.now opening cap) }
 {
     let name = Name {
         items: Vec::from_slice(alloc, name)?,
@@ -49,7 +39,8 @@ pub fn account_of(alloc: Global, name: &[u8], opening: u64, cap: u64) -> Result<
 pub fn spend(account: &mut Account, at: u64, op: Op, amount: u64) -> Result<(), TraceFault>
     requires held { IsHeld account.old }
     requires amount { amount ≤ MOST_NUMBER }
-    ensures { MatchResult result
+    ensures tenant { account.new.tenant ≡ account.old.tenant }
+    ensures taken { MatchResult result
         (λ _. spent at op amount account.old ≡ Ok account.new)
         (λ fault. Fails fault (spent at op amount account.old)) }
 {

@@ -1,18 +1,20 @@
 //! Reading a trace: record by record, up to the first fault.
-ghost use Rattle.std.specs.Prelude.{◌≡◌, ◌≤◌, ◌+◌, Ok, Err, IfOk, OnOk};
+ghost use Rattle.std.specs.Prelude.{◌≡◌, ◌≤◌, ◌<◌, ◌+◌, true, length, Ok, Err, None, IfOk, IfSome, OnOk};
 ghost use Rattle.csv.specs.Records.{fields_of};
 ghost use Rattle.trace_text.specs.Accounts.{AreHeld};
-ghost use Rattle.trace_text.specs.Fields.{field};
+ghost use Rattle.trace_text.specs.Fields.{field, is_tenant};
 ghost use Rattle.trace_text.specs.SoundTrace.{IsSoundTrace};
 ghost use Rattle.trace_text.specs.TraceFaults.{FirstRecordIsAtFault, NoRecordIsAtFault, RecordFaultsAreFirst};
+ghost use Rattle.trace_text.specs.declared.fields.Action.TheVariants.{Open};
 ghost use Rattle.trace_text.specs.Trace.{Becomes, Gives, acted, called, content, content_of, opened, place_of, record_after, records_after, settled, start, state_of, trace_of, unnamed, within};
 
+use crate::accounts::Accounts;
 use crate::fields::{
     Action, Format, action_of, amount_of, cap_of, field, format_of, is_tenant, width, worker_of,
 };
 use crate::pieces::MOST_NUMBER;
 use crate::records::Records;
-use crate::tenants::{Account, MOST_TENANTS, account_of, place_of, settle_all, spend};
+use crate::tenants::MOST_TENANTS;
 use crate::traces::{Cut, Op, Row, Trace, TraceFault};
 use csv::ByteRecord;
 use std::alloc::Global;
@@ -23,19 +25,23 @@ pub const MOST_RECORDS: u64 = 1_000_000;
 /// The most cuts of a trace.
 pub const MOST_CUTS: usize = 100;
 
+// The bytes that a row seldom falls below, by which room for rows is made before the first one.
+const ROW_BYTES: usize = 16;
+
 /// What is known after some records.
 #[derive(Drop)]
 pub struct Ledger {
-    pub accounts: Vec<Account>,
+    pub accounts: Accounts,
     pub rows: Vec<Row>,
     pub cuts: Vec<Cut>,
 }
 
-// What a record says beside its action and its tenant.
+// What a record says beside its action, with the place of the tenant that it names.
 #[derive(Clone, Copy)]
 struct Entry {
     at: u64,
     worker: u32,
+    place: Option<usize>,
     amount: u64,
 }
 
@@ -54,17 +60,18 @@ fn check_within(at: u64, room: bool) -> Result<(), TraceFault>
 
 // Refuses the name of a tenant that is open already.
 #[tactic(auto, unfolding(crate::specs::Trace::unnamed))]
-fn check_unnamed(at: u64, name: &[u8], accounts: &[Account]) -> Result<(), TraceFault>
-    ensures { result ≡ unnamed at (place_of name.now accounts.now) }
+fn check_unnamed(at: u64, place: Option<usize>) -> Result<(), TraceFault>
+    ensures exact { result ≡ unnamed at place }
+    ensures fresh { OnOk result (place ≡ None) }
 {
-    match place_of(name, accounts) {
+    match place {
         None => Ok(()),
         Some(_) => Err(TraceFault::Again { at }),
     }
 }
 
 // Opens a tenant.
-#[tactic(auto, unfolding(crate::specs::Trace::opened))]
+#[tactic(auto, unfolding(crate::specs::Trace::opened, crate::specs::Fields::is_tenant))]
 fn open(
     ledger: &mut Ledger,
     alloc: Global,
@@ -72,24 +79,24 @@ fn open(
     entry: Entry,
     row: &ByteRecord,
 ) -> Result<(), TraceFault>
+    requires place { entry.place ≡ place_of (field (fields_of row.now) 2) ledger.old.accounts }
+    requires named { is_tenant Open (field (fields_of row.now) 2) ≡ true }
     ensures { Becomes result (opened format entry.at (field (fields_of row.now) 2) entry.amount (field (fields_of row.now) 4) (state_of ledger.old)) ledger.new }
 {
     let Entry {
         at,
+        place,
         amount: opening,
         ..
     } = entry;
     let name = field(row, 2);
-    check_unnamed(at, name, &ledger.accounts)?;
+    check_unnamed(at, place)?;
     check_within(at, ledger.accounts.len() < MOST_TENANTS)?;
     let Some(cap) = cap_of(format, Action::Open, opening, field(row, 4)) else {
         return Err(TraceFault::Cap { at });
     };
-    let account = account_of(alloc, name, opening, cap)?;
-    match ledger.accounts.push(account) {
-        Ok(()) => Ok(()),
-        Err(_) => Err(TraceFault::NoMemory),
-    }
+    ledger.accounts.open(alloc, name, opening, cap)?;
+    Ok(())
 }
 
 // Ends a segment.
@@ -101,7 +108,7 @@ fn cut(ledger: &mut Ledger, format: Format, at: u64, row: &ByteRecord) -> Result
     if cap_of(format, Action::Settle, 0, field(row, 4)).is_none() {
         return Err(TraceFault::Cap { at });
     }
-    settle_all(&mut ledger.accounts);
+    ledger.accounts.settle();
     let rows = ledger.rows.len() as u64;
     match ledger.cuts.push(Cut { at, rows }) {
         Ok(()) => Ok(()),
@@ -118,16 +125,23 @@ fn call(
     op: Op,
     row: &ByteRecord,
 ) -> Result<(), TraceFault>
-    requires held { AreHeld ledger.old.accounts.items }
+    requires held { AreHeld ledger.old.accounts }
+    requires place { entry.place ≡ place_of (field (fields_of row.now) 2) ledger.old.accounts }
+    requires within { IfSome entry.place (λ place. place < length ledger.old.accounts) }
     requires amount { entry.amount ≤ MOST_NUMBER }
     ensures { Becomes result (called format entry.at entry.worker op (field (fields_of row.now) 2) entry.amount (field (fields_of row.now) 4) (state_of ledger.old)) ledger.new }
 {
-    let Entry { at, worker, amount } = entry;
-    let Some(place) = place_of(field(row, 2), &ledger.accounts) else {
+    let Entry {
+        at,
+        worker,
+        place,
+        amount,
+    } = entry;
+    let Some(place) = place else {
         return Err(TraceFault::Unknown { at });
     };
     check_within(at, true)?;
-    spend(&mut ledger.accounts[place], at, op, amount)?;
+    ledger.accounts.spend(place, at, op, amount)?;
     if cap_of(format, Action::Call(op), amount, field(row, 4)).is_none() {
         return Err(TraceFault::Cap { at });
     }
@@ -154,8 +168,11 @@ fn act(
     action: Action,
     row: &ByteRecord,
 ) -> Result<(), TraceFault>
-    requires held { AreHeld ledger.old.accounts.items }
+    requires held { AreHeld ledger.old.accounts }
+    requires place { entry.place ≡ place_of (field (fields_of row.now) 2) ledger.old.accounts }
+    requires within { IfSome entry.place (λ place. place < length ledger.old.accounts) }
     requires amount { entry.amount ≤ MOST_NUMBER }
+    requires named { is_tenant action (field (fields_of row.now) 2) ≡ true }
     ensures { Becomes result (acted format entry.at entry.worker action entry.amount (fields_of row.now) (state_of ledger.old)) ledger.new }
 {
     match action {
@@ -175,7 +192,7 @@ pub fn take_record(
     at: u64,
     row: &ByteRecord,
 ) -> Result<(), TraceFault>
-    requires held { AreHeld ledger.old.accounts.items }
+    requires held { AreHeld ledger.old.accounts }
     ensures { Becomes result (record_after format workers at (fields_of row.now) (state_of ledger.old)) ledger.new }
 {
     if row.len() != width(format) {
@@ -187,13 +204,20 @@ pub fn take_record(
     let Some(action) = action_of(format, field(row, 1)) else {
         return Err(TraceFault::Op { at });
     };
-    if !is_tenant(action, field(row, 2)) {
+    let name = field(row, 2);
+    let place = ledger.accounts.place_of(name);
+    if !is_tenant(action, name, place.is_some()) {
         return Err(TraceFault::Tenant { at });
     }
     let Some(amount) = amount_of(action, field(row, 3)) else {
         return Err(TraceFault::Amount { at });
     };
-    let entry = Entry { at, worker, amount };
+    let entry = Entry {
+        at,
+        worker,
+        place,
+        amount,
+    };
     act(ledger, alloc, format, entry, action, row)
 }
 
@@ -217,7 +241,8 @@ pub fn read_trace(alloc: Global, workers: u32, bytes: &[u8]) -> Result<Trace, Tr
     let Some(format) = format_of(&row) else {
         return Err(TraceFault::Header { at: 0 });
     };
-    let ledger = read_records(alloc, format, workers, records)?;
+    let room = (bytes.len() / ROW_BYTES).min(MOST_RECORDS as usize);
+    let ledger = read_records(alloc, format, workers, records, room)?;
     trace_in(alloc, ledger)
 }
 
@@ -229,12 +254,13 @@ pub fn trace_fault_laws()
     ensures no_record_is_at_fault { NoRecordIsAtFault }
 {}
 
-// Reads the records after the first one.
+// Reads the records after the first one, with room for so many rows to begin with.
 fn read_records(
     alloc: Global,
     format: Format,
     workers: u32,
     records: Records<'_>,
+    room: usize,
 ) -> Result<Ledger, TraceFault>
     ensures exact { Gives state_of result (records_after format workers 1 records.entry start) }
     ensures sound { IfOk result (λ ledger. IsSoundTrace workers (content_of (state_of ledger))) }
@@ -242,8 +268,8 @@ fn read_records(
     let mut records = records;
     let mut row = ByteRecord::new(alloc);
     let mut ledger = Ledger {
-        accounts: Vec::new(alloc),
-        rows: Vec::new(alloc),
+        accounts: Accounts::new(alloc),
+        rows: Vec::with_capacity(alloc, room)?,
         cuts: Vec::new(alloc),
     };
     let mut at = 0;
@@ -259,7 +285,7 @@ fn trace_in(alloc: Global, ledger: Ledger) -> Result<Trace, TraceFault>
     ensures { Gives content result (Ok (content_of (state_of ledger))) }
 {
     let mut tenants = Vec::new(alloc);
-    for account in ledger.accounts {
+    for account in ledger.accounts.into_items() {
         match tenants.push(account.tenant) {
             Ok(()) => {}
             Err(_) => return Err(TraceFault::NoMemory),
