@@ -26,6 +26,7 @@ pub enum Action {
 }
 
 /// How many fields each record has.
+#[inline]
 pub fn width(format: Format) -> usize
     ensures { result ≡ width format }
 {
@@ -36,6 +37,7 @@ pub fn width(format: Format) -> usize
 }
 
 /// The field at a place, which has no bytes where there is none.
+#[inline]
 pub fn field(row: &ByteRecord, i: usize) -> &[u8]
     ensures { result.now ≡ field (fields_of row.now) i }
 {
@@ -73,6 +75,7 @@ fn names_four(row: &ByteRecord) -> bool
 }
 
 /// A worker: a number below `workers`.
+#[inline]
 #[tactic(auto, unfolding(crate::specs::Fields::worker_of))]
 pub fn worker_of(workers: u32, word: &[u8]) -> Option<u32>
     ensures { result ≡ worker_of workers word.now }
@@ -107,6 +110,7 @@ pub fn action_of(format: Format, word: &[u8]) -> Option<Action>
 }
 
 /// Whether a word is the tenant that an action has, where it may be known that it is a name.
+#[inline]
 #[tactic(auto, unfolding(crate::specs::Fields::is_tenant))]
 pub fn is_tenant(action: Action, word: &[u8], known: bool) -> bool
     requires { known ≡ true → is_name word.now ≡ true }
@@ -137,6 +141,7 @@ fn is_name_byte(byte: u8) -> bool
 }
 
 /// The amount that an action has.
+#[inline]
 #[tactic(auto, unfolding(crate::specs::Fields::amount_of))]
 pub fn amount_of(action: Action, word: &[u8]) -> Option<u64>
     ensures exact { result ≡ amount_of action word.now }
@@ -150,6 +155,7 @@ pub fn amount_of(action: Action, word: &[u8]) -> Option<u64>
 }
 
 /// The cap that an action has, which is the greatest number where records have none.
+#[inline]
 #[tactic(auto, unfolding(crate::specs::Fields::cap_of))]
 pub fn cap_of(format: Format, action: Action, amount: u64, word: &[u8]) -> Option<u64>
     ensures exact { result ≡ cap_of format action amount word.now }

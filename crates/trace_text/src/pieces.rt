@@ -1,5 +1,5 @@
 //! The lines of a text, the words of a line, and numbers.
-ghost use Rattle.std.specs.Prelude.{◌≡◌, ◌≤◌, ◌==◌, ◌∷◌, [], length, IfSome, IsTrue, MatchOption};
+ghost use Rattle.std.specs.Prelude.{◌≡◌, ◌≤◌, ◌==◌, ◌∷◌, [], length, is_some, IfSome, MatchOption};
 ghost use Rattle.std.specs.List.{list_all, position_or_len, prefix_len};
 ghost use Rattle.trace_text.specs.Text.{lines, words, number, value, is_digit, without_return};
 
@@ -112,34 +112,34 @@ fn spaces(text: &[u8]) -> usize
 }
 
 /// The number that a word is: so many digits at most, and a value that isn't too great.
+#[inline]
 #[tactic(auto, unfolding(crate::specs::Text::number))]
 pub fn number(word: &[u8]) -> Option<u64>
     ensures exact { result ≡ number word.now }
     ensures bound { IfSome result (λ n. n ≤ MOST_NUMBER) }
 {
-    if word.is_empty() || word.len() > MOST_DIGITS || !is_decimal(word) {
+    if word.is_empty() || word.len() > MOST_DIGITS {
         return None;
     }
-    let value = value(word);
-    (value <= MOST_NUMBER).then_some(value)
+    match value(word) {
+        Some(value) if value <= MOST_NUMBER => Some(value),
+        _ => None,
+    }
 }
 
-// Whether a word has digits alone.
-fn is_decimal(word: &[u8]) -> bool
-    ensures { result ≡ list_all is_digit word.now }
-{
-    word.iter().all(|byte| byte.is_ascii_digit())
-}
-
-// What some digits are worth.
-fn value(digits: &[u8]) -> u64
-    requires few { length digits.now ≤ MOST_DIGITS }
-    requires decimal { IsTrue (list_all is_digit digits.now) }
-    ensures { result ≡ value digits.now }
+// What a word is worth, if it has digits alone.
+#[inline]
+fn value(word: &[u8]) -> Option<u64>
+    requires few { length word.now ≤ MOST_DIGITS }
+    ensures decimal { is_some result ≡ list_all is_digit word.now }
+    ensures worth { IfSome result (λ n. n ≡ value word.now) }
 {
     let mut value = 0;
-    for digit in digits {
-        value = value * 10 + u64::from(*digit - b'0');
+    for byte in word {
+        if !byte.is_ascii_digit() {
+            return None;
+        }
+        value = value * 10 + u64::from(*byte - b'0');
     }
-    value
+    Some(value)
 }

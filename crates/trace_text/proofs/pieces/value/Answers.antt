@@ -7,7 +7,7 @@ few : (n : ℕ) → n < 19 → 10 ^ n ≤ 1000000000000000000
 few n less = pow-le-pow_right {n = 10} (omega arith) {i = n} {j = 18} (omega arith)
 
 pub overflow_mul-value : goal.overflow_mul-value
-overflow_mul-value c = let small = few c.loop-digit.digit-index (search rules) in omega arith
+overflow_mul-value c = let small = few c.loop-byte.byte-index (search rules) in omega arith
 
 pub overflow_add-value : goal.overflow_add-value
-overflow_add-value c = let small = few c.loop-digit.digit-index (search rules) in omega arith
+overflow_add-value c = let small = few c.loop-byte.byte-index (search rules) in omega arith

@@ -1,9 +1,11 @@
-use Rattle.std.proofs.Common.{◌≡◌, ◌<◌, ◌^◌, take}
-use Rattle.trace_text.specs.Text.{value}
+use Rattle.std.proofs.Common.{◌≡◌, ◌<◌, ◌^◌, true, take}
+use Rattle.std.specs.List.{list_all}
+use Rattle.trace_text.specs.Text.{is_digit, value}
 use Rattle.trace_text.proofs.pieces.value.Given as goal
 
-abbrev pub invariant-loop-digit : goal.invariant-loop-digit
-invariant-loop-digit l = record {
-  worth : l.value ≡ value (take l.digit-index l.digits);
-  small : l.value < 10 ^ l.digit-index;
+abbrev pub invariant-loop-byte : goal.invariant-loop-byte
+invariant-loop-byte l = record {
+  decimal : list_all is_digit (take l.byte-index l.word) ≡ true;
+  worth : l.value ≡ value (take l.byte-index l.word);
+  small : l.value < 10 ^ l.byte-index;
 }
