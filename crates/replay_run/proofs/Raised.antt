@@ -12,7 +12,6 @@ use Rattle.fn_model.specs.declared.Call.{Call}
 use Rattle.fn_model.specs.Calls.{own, is_call, count, place}
 use Rattle.fn_model.specs.Integer.{after, value, before}
 use Rattle.fn_model.proofs.Calls.{reply_stays, first_beyond}
-use Rattle.fn_model.proofs.Histories.{no_count}
 use Rattle.fn_model.proofs.Integer.{value-append}
 use Rattle.fn_core.specs.declared.Start.{Start}
 use Rattle.fn_core.specs.Laws.{HasReply}

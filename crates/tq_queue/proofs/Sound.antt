@@ -11,11 +11,9 @@ use Rattle.running.specs.Running.{upto, numbers_from}
 use Rattle.fn_model.specs.declared.Call.{Call}
 use Rattle.fn_model.specs.Order.{sum_below}
 use Rattle.fn_model.specs.Integer.{after}
-use Rattle.fn_model.proofs.Spent.{All-history}
 use Rattle.fn_core.specs.declared.Event as funnel
 use Rattle.fn_core.specs.declared.Move.TheVariants.{Glance}
-use Rattle.fn_core.specs.State.{opened}
-use Rattle.fn_core.specs.Calls.{CoreLog, calls_in, state_in, IsLegal}
+use Rattle.fn_core.specs.Calls.{CoreLog, calls_in, IsLegal}
 use Rattle.fn_core.proofs.Grows.{replies_are_bounded}
 use Rattle.fn_core.proofs.Orders.{calls_are_of_passes}
 use Rattle.fn_table.specs.Seen.{TableView, PassView}

@@ -11,8 +11,6 @@ use Rattle.fn_model.specs.Calls.{own, place}
 use Rattle.fn_model.specs.Integer.{before}
 use Rattle.fn_core.specs.declared.Start.{Start}
 use Rattle.fn_core.specs.declared.Event.{Event}
-use Rattle.fn_core.specs.State.{State, opened, history_in}
-use Rattle.fn_core.specs.Machine.{Legal, run}
 use Rattle.fn_core.specs.Calls.{CoreLog, calls_in, IsLegal}
 use Rattle.fn_core.proofs.Orders.{histories_go_on}
 use Rattle.fn_table.specs.Seen.{PassView}
