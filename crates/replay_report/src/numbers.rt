@@ -5,6 +5,7 @@ use itoa::Buffer;
 use std::alloc::AllocError;
 
 /// Appends a number.
+#[inline(always)]
 pub fn push_number(text: &mut Vec<u8>, number: u64) -> Result<(), AllocError>
     ensures { OnOk result (text.new.items ≡ text.old.items ++ decimal number) }
 {
@@ -13,6 +14,7 @@ pub fn push_number(text: &mut Vec<u8>, number: u64) -> Result<(), AllocError>
 }
 
 /// Appends a sum.
+#[inline(always)]
 pub fn push_sum(text: &mut Vec<u8>, sum: u128) -> Result<(), AllocError>
     ensures { OnOk result (text.new.items ≡ text.old.items ++ decimal sum) }
 {
@@ -21,6 +23,7 @@ pub fn push_sum(text: &mut Vec<u8>, sum: u128) -> Result<(), AllocError>
 }
 
 /// Appends a name and a number.
+#[inline(always)]
 pub fn push_named(text: &mut Vec<u8>, name: &[u8], number: u64) -> Result<(), AllocError>
     ensures { OnOk result (text.new.items ≡ text.old.items ++ name.now ++ decimal number) }
 {
@@ -29,6 +32,7 @@ pub fn push_named(text: &mut Vec<u8>, name: &[u8], number: u64) -> Result<(), Al
 }
 
 /// Appends a name and a sum.
+#[inline(always)]
 pub fn push_named_sum(text: &mut Vec<u8>, name: &[u8], sum: u128) -> Result<(), AllocError>
     ensures { OnOk result (text.new.items ≡ text.old.items ++ name.now ++ decimal sum) }
 {
