@@ -4,20 +4,23 @@
 set -eu
 . "$(dirname "$0")/tool.sh"
 rustc -O -o "$work/plain" bench/plain_replay.rs
-timed() { # a name, and a command that reads the file $input
-    local name=$1 best= one
+timed() { # a name, and a command that reads the file $input; the best time stays in $best
+    local name=$1 one
     shift
-    for _ in 1 2 3; do
-        one=$( { TIMEFORMAT=%R; time "$@" <"$input" >"$work/out.$name"; } 2>&1 )
+    best=
+    for _ in {1..9}; do
+        one=$( { TIMEFORMAT=%3R; time "$@" <"$input" >"$work/out.$name"; } 2>&1 )
         if [ -z "$best" ] || awk "BEGIN { exit !($one < $best) }"; then best=$one; fi
     done
-    printf '%-28s %6.2f s\n' "$name" "$best"
+    printf '%-28s %7.3f s\n' "$name" "$best"
 }
 for rows in 200000 999960; do # with the 40 openings as many records as a trace may have
-    echo "$rows rows, 1 worker, 40 tenants (best of three)"
+    echo "$rows rows, 1 worker, 40 tenants (best of nine)"
     input=$work/one; bash bench/trace.sh "$rows" 1 40 >"$input"
     timed "plain-$rows" "$work/plain"
+    plain=$best
     timed "replay-1-$rows" "$tool" replay 1
+    awk "BEGIN { printf \"%-28s %7.2f times the plain program\n\", \"\", $best / $plain }"
     cmp "$work/out.plain-$rows" "$work/out.replay-1-$rows"
 done
 echo "200000 rows, 16 workers, 40 tenants"
