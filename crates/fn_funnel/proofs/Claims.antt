@@ -10,10 +10,10 @@ use Rattle.fn_core.proofs.Orders.{histories_go_on}
 use Rattle.fn_core.proofs.Owned.{own_calls_are_in_order}
 use Rattle.fn_table.specs.Seen.{PassView, own_of}
 use Rattle.fn_climb.specs.Steps.{IsLater}
-use Rattle.fn_direct.specs.Called.{call_of, HasCalled}
+use Rattle.fn_direct.specs.Called.{call_of, HasCalled, HasMadeNone}
 use Rattle.fn_funnel.specs.Waiting.{Waited}
 use Rattle.fn_funnel.specs.declared.waiting.Added.{Added}
-use Rattle.fn_funnel.specs.Words.{past, mine, Rests, next_of, Made}
+use Rattle.fn_funnel.specs.Words.{past, mine, Rests, next_of, Made, MadeNone}
 use Rattle.fn_funnel.proofs.Funnelled.{none_underway}
 
 -- a pass that rests has as many own calls in its history as it has made
@@ -46,3 +46,13 @@ made_by p kind amount reply q legal rests later called within =
 -- .. and so is a call that has waited for its reply
 pub made_waited : (p : PassView) (kind : Kind) (amount : ℕ) (added : Added) (q : PassView) → IsLegal p.seen → Rests p → Waited p kind amount added q → Made p kind amount added.before q
 made_waited p kind amount added q legal rests waited = made_by p kind amount added.before q legal rests waited.later waited.called waited.within
+
+-- a pass that has made no call, as its steps tell it, has made none in these words too
+pub made_none : (p q : PassView) → IsLater p q → HasMadeNone p q → MadeNone p q
+made_none p q later none = record {
+  same = (later.table, later.number, later.start);
+  goes_on = histories_go_on p.seen q.seen later.legal later.start later.begins;
+  mine_now = ap (λ (n : ℕ). own n (past q)) later.number ∙ none.calls;
+  spent = ap (λ (n : ℕ). left_of q.seen n) later.number ∙ none.left;
+  rests = subst (λ (n : ℕ). IsIdle q.seen n) (sym later.number) none.idle;
+}

@@ -4,6 +4,7 @@
 --     Rests pass      it has no call underway
 --     next_of pass kind amount      the call that it makes next
 --     Made pass kind amount reply after      it has made this call, which met the reply
+--     MadeNone pass after      it has made no call
 use Rattle.std.specs.Prelude.{◌≡◌, ℕ, ◌+◌, ◌≤◌, List, [], ◌∷◌, ◌++◌, length, Some}
 use mathlib.Core.List.{IsPrefix}
 use Rattle.fn_model.specs.declared.Call.{Call}
@@ -42,4 +43,12 @@ pub record Made (p : PassView) (kind : Kind) (amount reply : ℕ) (q : PassView)
   pub met : Meets p.seen.start.cap p.seen.start.opening (past q) (next_of p kind amount) reply
   pub within : reply ≤ p.seen.start.cap
   pub spent : left q + amount ≡ left p
+  pub rests : Rests q
+
+-- The same pass has made no call, and spent nothing; what it had seen may have gone on
+pub record MadeNone (p q : PassView) : Type 0 where
+  pub same : (q.table ≡ p.table) × (q.number ≡ p.number) × (q.seen.start ≡ p.seen.start)
+  pub goes_on : IsPrefix (past p) (past q)
+  pub mine_now : mine q ≡ mine p
+  pub spent : left q ≡ left p
   pub rests : Rests q
