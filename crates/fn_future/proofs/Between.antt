@@ -1,5 +1,5 @@
 -- A call between its polls.
-use Rattle.std.proofs.Common.{◌≡◌, ℕ, ◌≤◌, ◌<◌, List, [], ◌∷◌, ◌++◌, Option, Some, None, IfSome, IsSomeAnd, refl, sym, ◌∙◌, ap, subst}
+use Rattle.std.proofs.Common.{◌≡◌, ℕ, ◌≤◌, ◌<◌, List, [], ◌∷◌, ◌++◌, Option, Some, None, IsSomeAnd, refl, sym, ◌∙◌, subst}
 use Rattle.fn_model.specs.declared.Kind.{Kind}
 use Rattle.fn_core.specs.declared.Start.{Start}
 use Rattle.fn_core.specs.declared.answer.Blocked.{Blocked}
@@ -13,7 +13,6 @@ use Rattle.fn_climb.specs.Turns.{Polled}
 use Rattle.fn_climb.specs.declared.beginning.Begun.TheVariants.{Waiting, NoRow}
 use Rattle.fn_climb.proofs.Later.{later_on, of_later}
 use Rattle.fn_direct.specs.Called.{call_of}
-use Rattle.fn_funnel.specs.Waiting.{PollsInVain}
 use Rattle.fn_funnel.specs.Words.{Made, MadeNone}
 use Rattle.fn_funnel.proofs.Claims.{made_by, made_none}
 use Rattle.fn_funnel.proofs.Funnelled.{polls_more, polls_keep, within_cap, funnelled, batched}

@@ -1,23 +1,18 @@
 -- How a move goes on, poll by poll.
-use Rattle.std.proofs.Common.{◌≡◌, ◌⊎◌, ℕ, zero, suc, ◌+◌, ◌≤◌, ◌<◌, min, inl, inr, refl, sym, ◌∙◌, ap, subst, arith, Option, None, Some}
-use Rattle.std.specs.Prelude.{⊤}
+use Rattle.std.proofs.Common.{◌≡◌, ℕ, zero, suc, ◌≤◌, ◌<◌, min, inl, inr, refl, sym, ◌∙◌, ap, subst, arith, Option, None, Some}
 use Rattle.fn_model.specs.declared.Call.{Call}
 use Rattle.fn_model.specs.declared.Kind.{Kind}
 use Rattle.fn_model.specs.declared.Kind.TheVariants.{Add, Sub}
 use Rattle.fn_core.specs.declared.Start.{Start}
 use Rattle.fn_core.specs.declared.answer.Blocked.{Blocked}
 use Rattle.fn_core.specs.declared.answer.Why.{Why}
-use Rattle.fn_core.specs.declared.answer.CoreStep.TheVariants.{Ready, NotYet}
 use Rattle.fn_core.specs.Machine.{MaySpend}
 use Rattle.fn_core.specs.Calls.{state_in, IsLegal, IsIdle}
 use Rattle.fn_core.specs.Entries.{IsBatched}
 use Rattle.fn_table.specs.Seen.{TableView, PassView, IsOf, own_of}
 use Rattle.fn_climb.specs.Begin.{BeginAnswers}
-use Rattle.fn_climb.specs.Steps.{IsLater}
-use Rattle.fn_climb.specs.Turns.{Polled}
 use Rattle.fn_climb.specs.declared.beginning.Begun.TheVariants.{Waiting, NoRow}
 use Rattle.fn_climb.proofs.Later.{later_on, of_later}
-use Rattle.fn_direct.specs.Called.{call_of, HasMadeNone}
 use Rattle.fn_direct.proofs.Joined.{called_since}
 use Rattle.fn_funnel.specs.Words.{Made}
 use Rattle.fn_funnel.proofs.Funnelled.{later_none}
@@ -102,12 +97,15 @@ module _ (from to : TableView) (p q : PassView) (amount : ℕ) where
 
   added : (out now : PassView) (moved : ℕ) → HasTaken p amount out moved → (i : PassView) → MayAdd to q i moved → (why : Option Why) → IsUnderway i Add moved now why → (leg : Leg) → AddedLeg out now moved leg → LegStands leg
   added out now moved taken i may why u (Done o z n) leg =
-      let made = made_since to q i moved may Add moved z leg.2.0 (underway_done i Add moved now why u leg.2.0 z leg.2.1) in (
+      let made = made_since to q i moved may Add moved z leg.2.0 (underway_done i Add moved now why u leg.2.0 z leg.2.1) in
+      let claim = claimed q Add moved leg.2.0 z may.legal may.rests made in (
         record {
           before = taken.before;
           taken = subst (λ (v : PassView). Made p Sub amount taken.before v) (sym leg.0) taken.made;
           moved_is = leg.1 ∙ taken.moved_is;
-          added = subst (λ (k : ℕ). AddedTo q k z) (sym leg.1) (added_to q moved z taken.some leg.2.0 (claimed q Add moved leg.2.0 z may.legal may.rests made));
+          added = subst (λ (k : ℕ). AddedTo q k z) (sym leg.1) (added_to q moved z taken.some leg.2.0 claim);
+          same = claim.same;
+          rests = claim.rests;
         },
         record {
           before = taken.before;
@@ -126,7 +124,7 @@ module _ (from to : TableView) (p q : PassView) (amount : ℕ) where
 
   after_taking : (before : ℕ) (out : PassView) (moved : ℕ) → moved ≡ min amount before → moved ≤ amount → Made p Sub amount before out → IsMade p Sub amount out before → MayAdd to q q amount → (leg : Leg) → AfterTaking moved out q leg → LegStands leg
   after_taking before out zero is few made taken may leg w =
-      subst LegStands (sym w) (record { before = before; taken = made; moved_is = is; added = refl }, record { before = before; taken = taken; moved_is = is; added = refl })
+      subst LegStands (sym w) (record { before = before; taken = made; moved_is = is; added = refl; same = (refl, refl, refl); rests = may.rests }, record { before = before; taken = taken; moved_is = is; added = refl })
   after_taking before out (suc n) is few made taken may leg w =
       began out q (suc n) (record { before = before; made = made; taken = taken; moved_is = is; some = omega arith }) (may_less to q q amount may (suc n) (omega arith) few) leg w
 

@@ -1,9 +1,9 @@
-use Rattle.std.proofs.Common.{◌∙◌, sym, subst, None, Some}
+use Rattle.std.proofs.Common.{sym, subst, None, Some}
 use Rattle.fn_future.specs.declared.legs.MoveStage.{MoveStage}
 use Rattle.fn_future.specs.declared.legs.Leg.{Leg}
 use Rattle.fn_future.specs.declared.legs.Leg.TheVariants.{Done, Waits}
 use Rattle.fn_future.specs.Moves.{MoveView, GoesFrom, MayGo, GivesMove, IsOpen, IsOpenStage, TurnedMove}
-use Rattle.fn_future.proofs.Journeys.{LegStands, leg_stands, stands_may, turned_done, turned_waits}
+use Rattle.fn_future.proofs.Journeys.{leg_stands, stands_may, turned_done, turned_waits}
 use Rattle.fn_future.proofs.moving.MoveFuture.turn.Goals as goal
 
 pub go-requires : goal.go-requires

@@ -1,4 +1,4 @@
-use Rattle.std.proofs.Common.{◌≡◌, ◌∙◌, sym, subst, Some, None, ℕ}
+use Rattle.std.proofs.Common.{◌∙◌, sym, subst, Some, None, ℕ}
 use Rattle.futures.specs.declared.task.Poll.{Poll}
 use Rattle.fn_table.specs.Seen.{PassView}
 use Rattle.fn_future.specs.Views.{CallView}
