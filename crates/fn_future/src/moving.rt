@@ -1,9 +1,7 @@
 // A move from one funnel to another as a future.
-ghost use Rattle.std.specs.Prelude.{◌≡◌, IfErr, IfNone, IfOk, IfSome};
-ghost use Rattle.fn_core.specs.Machine.{MaySpend};
-ghost use Rattle.fn_core.specs.Calls.{state_in, IsIdle};
+ghost use Rattle.std.specs.Prelude.{◌≡◌, ◌≤◌, IfErr, IfNone, IfOk, IfSome};
 ghost use Rattle.fn_table.specs.Seen.{IsOf};
-ghost use Rattle.fn_funnel.specs.Words.{MadeNone};
+ghost use Rattle.fn_funnel.specs.Words.{left, MadeNone, Rests};
 ghost use Rattle.fn_future.specs.Moves.{GivesMove, IsMoveFor, IsOpen, StartsMove, TurnedMove};
 
 use crate::legs::{Leg, MoveStage};
@@ -48,9 +46,8 @@ impl<'a> MoveFuture<'a> {
     ) -> Result<MoveFuture<'a>, (Pass, Pass, Blocked)>
         requires from { IsOf from.now out }
         requires to { IsOf to.now into }
-        requires idle { IsIdle out.seen out.number × IsIdle into.seen into.number }
-        requires taken { MaySpend (state_in out.seen) out.number amount }
-        requires added { MaySpend (state_in into.seen) into.number amount }
+        requires rest { Rests out × Rests into }
+        requires amount { (1 ≤ amount) × (amount ≤ left out) × (amount ≤ left into) }
         ensures call { IfOk result (IsMoveFor out into amount) }
         ensures refused { IfErr result (λ e. MadeNone out e.0 × (e.1 ≡ into)) }
         ensures way { StartsMove from.now out to.now into amount result }

@@ -1,10 +1,8 @@
 // An addition and a subtraction as futures.
-ghost use Rattle.std.specs.Prelude.{◌≡◌, IfErr, IfOk, IsSome};
+ghost use Rattle.std.specs.Prelude.{◌≡◌, ◌≤◌, IfErr, IfOk, IsSome};
 ghost use Rattle.fn_model.specs.declared.Kind.TheVariants.{Add, Sub};
-ghost use Rattle.fn_core.specs.Machine.{MaySpend};
-ghost use Rattle.fn_core.specs.Calls.{state_in, IsIdle};
 ghost use Rattle.fn_table.specs.Seen.{IsOf};
-ghost use Rattle.fn_funnel.specs.Words.{Made, MadeNone};
+ghost use Rattle.fn_funnel.specs.Words.{left, Made, MadeNone, Rests};
 ghost use Rattle.fn_future.specs.Calls.{Gives, HasMade, IsFor, Starts};
 ghost use Rattle.fn_future.specs.Polls.{AsksAgain, PolledOnce};
 
@@ -40,8 +38,8 @@ impl<'a> AddFuture<'a> {
         amount: u64,
     ) -> Result<AddFuture<'a>, (Pass, Blocked)>
         requires together { IsOf table.now pass }
-        requires idle { IsIdle pass.seen pass.number }
-        requires amount { MaySpend (state_in pass.seen) pass.number amount }
+        requires rests { Rests pass }
+        requires amount { (1 ≤ amount) × (amount ≤ left pass) }
         ensures call { IfOk result (IsFor pass Add amount) }
         ensures refused { IfErr result (λ e. MadeNone pass e.0) }
         ensures way { Starts table.now pass Add amount result }
@@ -112,8 +110,8 @@ impl<'a> SubFuture<'a> {
         amount: u64,
     ) -> Result<SubFuture<'a>, (Pass, Blocked)>
         requires together { IsOf table.now pass }
-        requires idle { IsIdle pass.seen pass.number }
-        requires amount { MaySpend (state_in pass.seen) pass.number amount }
+        requires rests { Rests pass }
+        requires amount { (1 ≤ amount) × (amount ≤ left pass) }
         ensures call { IfOk result (IsFor pass Sub amount) }
         ensures refused { IfErr result (λ e. MadeNone pass e.0) }
         ensures way { Starts table.now pass Sub amount result }

@@ -1,9 +1,9 @@
 //! A limiter whose tasks share one thread: a task gives the thread back while it waits for its batch.
-ghost use Rattle.std.specs.Prelude.{◌≡◌, IfOk, IfSome, IsSome, nat_lt, ℕ};
+ghost use Rattle.std.specs.Prelude.{◌≡◌, ◌≤◌, IfSome, IsSome, nat_lt, ℕ};
 ghost use Rattle.fn_model.specs.declared.Kind.TheVariants.{Add};
-ghost use Rattle.fn_table.specs.Seen.{AreOpened};
+ghost use Rattle.fn_table.specs.Seen.{AreOpened, IsOf};
 ghost use Rattle.fn_table.specs.Standing.{IsNumbered};
-ghost use Rattle.fn_funnel.specs.Words.{Made};
+ghost use Rattle.fn_funnel.specs.Words.{left, Made, Rests};
 
 use super::super::*;
 use fn_layout::Shape;
@@ -11,7 +11,7 @@ use futures::executor::block_on;
 use futures::future::join;
 use futures::task::{Context, Poll};
 use futures::Future;
-use std::alloc::{AllocGlobal, Global};
+use std::alloc::{AllocError, AllocGlobal, Global};
 use std::random::RandomSource;
 use std::sync::Wait;
 use std::test::*;
@@ -38,37 +38,58 @@ impl Future for Request<'_> {
     }
 }
 
-/// Two tasks of one thread: while the one waits for its batch, the thread goes on with the other.
-pub fn ask_both<R>(
+/// Adds for two passes, as two tasks of one thread: while the one waits for its batch, the thread goes on with the other.
+pub fn add_both<R>(
     rt: &R,
-    first: AddFuture<'_>,
-    second: AddFuture<'_>,
-) -> Result<((Pass, u64), (Pass, u64)), NoMemory>
+    table: &FunnelTable,
+    first: Pass,
+    second: Pass,
+    amount: u64,
+) -> Option<((Pass, u64), (Pass, u64))>
 where
     R: Wait + RandomSource + AllocGlobal,
-    requires both { IsSome first.pending × IsSome second.pending }
-    ensures first { IfOk result (λ r. Made first.entry.given Add first.entry.amount r.0.1 r.0.0) }
-    ensures second { IfOk result (λ r. Made second.entry.given Add second.entry.amount r.1.1 r.1.0) }
+    requires together { IsOf table.now first × IsOf table.now second }
+    requires rest { Rests first × Rests second }
+    requires amount { (1 ≤ amount) × (amount ≤ left first) × (amount ≤ left second) }
+    ensures first { IfSome result (λ r. Made first Add amount r.0.1 r.0.0) }
+    ensures second { IfSome result (λ r. Made second Add amount r.1.1 r.1.0) }
 {
-    match block_on(rt, join(first, second)) {
-        Ok(replies) => Ok(replies),
-        Err(_) => Err(NoMemory),
-    }
+    let first = AddFuture::new(table, first, amount).ok()?;
+    let second = AddFuture::new(table, second, amount).ok()?;
+    // The second is polled before the first, whose batch it is in.
+    let (second, first) = block_on(rt, join(second, first)).ok()?;
+    Some((first, second))
 }
 
-// The two passes of a table, the second first.
+// The two passes of a table.
 fn two_passes(table: &FunnelTable, mut passes: Vec<Pass>) -> Option<(Pass, Pass)>
     requires opened { AreOpened table.now passes.items }
     requires two { table.now.start.shape.passes ≡ 2 }
-    ensures { IfSome result (λ r. IsNumbered table.now r.0 1 × IsNumbered table.now r.1 0) }
+    ensures { IfSome result (λ r. IsNumbered table.now r.0 0 × IsNumbered table.now r.1 1) }
 {
     let second = passes.pop()?;
     let first = passes.pop()?;
-    Some((second, first))
+    Some((first, second))
 }
 
-// Both passes ask for 5, the first one first; the thread polls the second one first.
-fn both_ask<R>(
+// The value of the book, when both have come back.
+fn value_of_two(
+    alloc: Global,
+    table: FunnelTable,
+    first: Pass,
+    second: Pass,
+) -> Result<u64, AllocError>
+    requires two { table.start.shape.passes ≡ 2 }
+    requires passes { IsNumbered table first 0 × IsNumbered table second 1 }
+{
+    let mut passes = Vec::new(alloc);
+    passes.push(first)?;
+    passes.push(second)?;
+    Ok(table.close(passes).value())
+}
+
+// Adds 5 for both passes, and tells the replies and the value.
+fn both_add<R>(
     rt: &R,
     alloc: Global,
     table: FunnelTable,
@@ -79,17 +100,13 @@ where
     requires opened { AreOpened table passes.items }
     requires two { table.start.shape.passes ≡ 2 }
 {
-    let (second, first) = two_passes(&table, passes)?;
+    let (first, second) = two_passes(&table, passes)?;
     if first.allowance() < 5 || second.allowance() < 5 {
         return None;
     }
-    let first = AddFuture::new(&table, first, 5).ok()?;
-    let second = AddFuture::new(&table, second, 5).ok()?;
-    let ((second, later), (first, earlier)) = ask_both(rt, second, first).ok()?;
-    let mut passes = Vec::new(alloc);
-    passes.push(first).ok()?;
-    passes.push(second).ok()?;
-    Some((earlier, later, table.close(passes).value()))
+    let ((first, before), (second, then)) = add_both(rt, &table, first, second, 5)?;
+    let value = value_of_two(alloc, table, first, second).ok()?;
+    Some((before, then, value))
 }
 
 #[test]
@@ -97,7 +114,7 @@ fn two_tasks_share_a_thread(rt: HostRuntime) -> Result<(), Fail> {
     if let Ok(shape) = Shape::new(2, 1, 1, 1)
         && let Ok((table, passes)) = FunnelTable::open(rt.alloc(), shape, 0, &[5, 5])
     {
-        assert_eq!(rt; both_ask(&rt, rt.alloc(), table, passes), Some((0, 5, 10)));
+        assert_eq!(rt; both_add(&rt, rt.alloc(), table, passes), Some((0, 5, 10)));
         return Ok(());
     }
     assert!(&rt; false);
@@ -111,7 +128,7 @@ where
     requires opened { AreOpened table.now passes.items }
     requires two { table.now.start.shape.passes ≡ 2 }
 {
-    let (second, first) = two_passes(table, passes)?;
+    let (first, second) = two_passes(table, passes)?;
     if first.allowance() < 5 || second.allowance() < 5 {
         return None;
     }
