@@ -7,10 +7,10 @@ ghost use Rattle.fn_funnel.specs.Words.{left, Made, Rests};
 
 use super::super::*;
 use fn_layout::Shape;
+use futures::Future;
 use futures::executor::block_on;
 use futures::future::join;
 use futures::task::{Context, Poll};
-use futures::Future;
 use std::alloc::{AllocError, AllocGlobal, Global};
 use std::random::RandomSource;
 use std::sync::Wait;
@@ -54,11 +54,17 @@ where
     ensures first { IfSome result (λ r. Made first Add amount r.0.1 r.0.0) }
     ensures second { IfSome result (λ r. Made second Add amount r.1.1 r.1.0) }
 {
-    let first = AddFuture::new(table, first, amount).ok()?;
-    let second = AddFuture::new(table, second, amount).ok()?;
+    let Ok(first) = AddFuture::new(table, first, amount) else {
+        return None;
+    };
+    let Ok(second) = AddFuture::new(table, second, amount) else {
+        return None;
+    };
     // The second is polled before the first, whose batch it is in.
-    let (second, first) = block_on(rt, join(second, first)).ok()?;
-    Some((first, second))
+    match block_on(rt, join(second, first)) {
+        Ok((second, first)) => Some((first, second)),
+        Err(_) => None,
+    }
 }
 
 // The two passes of a table.
