@@ -1,0 +1,10 @@
+pub mod Made
+pub mod Turned
+pub mod Histories
+pub mod Paired
+pub mod LineOrders
+pub mod Dealt
+pub mod Gathered
+pub mod InBook
+pub mod Finished
+pub mod Changes
