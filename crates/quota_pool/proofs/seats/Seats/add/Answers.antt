@@ -14,6 +14,6 @@ returns g c =
     let p = c.take_at-pass.result in
     let q = c.add-pass.result.0 in
     let cap = cap_is c.args.pool.now c.args.self.now c.args.tenant c.funnel-funnel.result.now p c.requires.together c.funnel-funnel.ensures (had c.args.self.now c.self.inside.worker c.self.inside.passes c.deref_mut.result.now c.take_at-pass.new.places c.args.tenant q c.self.view_is c.self.invariant c.deref_mut.ensures.value c.take_at-pass.ensures.rest p c.take_at-pass.ensures.pass) in
-    let called : Called p Add true c.args.amount answer q = added_by p q c.args.amount c.add-pass.result.1 c.min.result c.cap.result c.add-pass.ensures (cap ∙ sym c.cap.ensures) c.min.ensures in
+    let called : Called p Add true c.args.amount answer q = added_by p q c.args.amount c.add-pass.result.1 c.min.result c.cap.result c.add-pass.ensures.way (cap ∙ sym c.cap.ensures) c.min.ensures in
     makes_call c.args.self.now c.self.inside.worker c.self.inside.passes c.deref_mut.result.now c.take_at-pass.new.places c.args.tenant q c.self.view_is c.self.invariant c.deref_mut.ensures.value c.take_at-pass.ensures.rest
     c.args.pool.now c.requires.together p Add true c.args.amount answer c.take_at-pass.ensures.pass called
