@@ -105,9 +105,13 @@ length_numbers : (k c : ℕ) → length (numbers_from k c) ≡ c
 length_numbers k zero = refl
 length_numbers k (suc c) = ap suc (length_numbers (suc k) c)
 
+-- how many ticks lie above one up to another
+pub between_length : (low high : ℕ) → length (between low high) ≡ high - low
+between_length low high = length_numbers (suc low) (high - low)
+
 counts_sum : (from : ℕ) (log : List Entry) → sum (counts from log) ≡ reach from log - from
 counts_sum from [] = omega arith
 counts_sum from (e ∷ log) = omega (arith, sum_by-cons (λ (n : ℕ). n) (e.tick - from) (counts (max from e.tick) log), counts_sum (max from e.tick) log, reach_least (max from e.tick) log)
 
 pub add_up : ClaimsAddUp
-add_up from log = (counts_sum from log, λ low high. length_numbers (suc low) (high - low))
+add_up from log = (counts_sum from log, between_length)

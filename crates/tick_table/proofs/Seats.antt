@@ -28,9 +28,6 @@ opens start words is = begins ticks start words (upto start.desks) is (λ n. tim
 abbrev after_split : Seated → Seated
 after_split me = (handing me.0, me.1)
 
-pub all_numbers : (desks : ℕ) → 0 < desks → upto desks ≡ 0 ∷ numbers_from 1 (desks - 1)
-all_numbers desks some_desk = numbers_first 0 desks some_desk
-
 -- the dealer without the number that it gave away
 pub dealt : (start : Start) (k : ℕ) (me : Seated) → k < start.desks → me ≡ (knows start (0 ∷ numbers_from k (start.desks - k)) [], [])
     → after_split me ≡ (knows start (0 ∷ numbers_from (k + 1) (start.desks - (k + 1))) [], [])
