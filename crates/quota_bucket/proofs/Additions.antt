@@ -1,12 +1,12 @@
 -- A refill is its additions.
-use Rattle.std.proofs.Common.{◌≡◌, ℕ, zero, suc, ◌+◌, ◌*◌, ◌≤◌, ◌<◌, ◌^◌, min, List, [], ◌∷◌, All, refl, sym, ap, ◌∙◌, arith, mul-suc, mul-add, add_comm}
+use Rattle.std.proofs.Common.{◌≡◌, ℕ, zero, suc, ◌+◌, ◌*◌, ◌^◌, min, All, refl, sym, ap, ◌∙◌, arith, mul-suc, mul-add, add_comm}
 use Rattle.std.proofs.lemmas.Nat.{mul-lt}
 use Rattle.fn_model.specs.declared.Call.{Call}
 use Rattle.fn_model.specs.declared.Kind.TheVariants.{Add}
 use Rattle.fn_model.specs.Calls.{amounts, IsOfKind}
-use Rattle.fn_model.specs.Integer.{after, value}
+use Rattle.fn_model.specs.Integer.{after}
 use Rattle.fn_model.proofs.Integer.{value-one_kind, amounts-cons}
-use Rattle.quota_bucket.specs.Refill.{refill, rates, RefillIsAdditions, RefillsJoin, RefillFits}
+use Rattle.quota_bucket.specs.Refill.{rates, RefillIsAdditions, RefillsJoin, RefillFits}
 
 -- an amount above the cap moves no more than the cap
 add_less : (burst v amount : ℕ) → after burst v Add (min burst amount) ≡ after burst v Add amount

@@ -5,14 +5,12 @@ use Rattle.std.proofs.lemmas.List.Elements.{All-nil, All-cons, All-head, All-tai
 use Rattle.std.specs.Prelude.{zip}
 use Rattle.running.specs.Running.{numbers_from, upto}
 use Rattle.fn_core.specs.State.{State, opened, history_in}
-use Rattle.fn_core.specs.Calls.{IsIdle}
 use Rattle.fn_table.specs.Seen.{TableView, PassView, IsWhole}
 use Rattle.fn_table.specs.Seen as funnel
 use Rattle.fn_table.proofs.Glances.{glances_run, glances_idle}
-use Rattle.fn_funnel.specs.Words.{past}
 use Rattle.tick_table.specs.Seen.{SeatView}
 use Rattle.tick_table.specs.Seen as ticks
-use Rattle.quota_bucket.specs.Seen.{BucketView, DeskView, Belongs}
+use Rattle.quota_bucket.specs.Seen.{BucketView, DeskView}
 use Rattle.quota_bucket.specs.Opened.{fresh_desk, fresh_desks, IsNew}
 use Rattle.quota_bucket.specs.Places.{desk_of}
 

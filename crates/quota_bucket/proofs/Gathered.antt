@@ -1,5 +1,5 @@
 -- What the tables of a bucket ask of its desks as they close, and what a closed bucket has.
-use Rattle.std.proofs.Common.{◌≡◌, ℕ, zero, suc, ◌<◌, ◌≤◌, List, [], ◌∷◌, ◌++◌, length, map, Some, slice_get, refl, sym, ap, ◌∙◌, subst, arith}
+use Rattle.std.proofs.Common.{◌≡◌, ℕ, zero, suc, ◌<◌, ◌≤◌, List, [], ◌∷◌, length, map, Some, slice_get, refl, sym, ap, ◌∙◌, subst, arith}
 use Rattle.std.specs.Prelude.{All}
 use Rattle.std.specs.Option.{option_map}
 use Rattle.std.proofs.lemmas.List.{length-map}
@@ -12,11 +12,11 @@ use Rattle.fn_model.specs.declared.Call.{Call}
 use Rattle.fn_model.specs.Calls.{own as own_calls}
 use Rattle.fn_core.specs.declared.Event.{Event}
 use Rattle.fn_core.specs.declared.Move.TheVariants.{Glance}
-use Rattle.fn_core.specs.Calls.{CoreLog, calls_in}
+use Rattle.fn_core.specs.Calls.{calls_in}
 use Rattle.fn_core.proofs.Orders.{histories_go_on, calls_are_of_passes}
 use Rattle.fn_table.specs.Seen.{PassView, event}
 use Rattle.fn_table.specs.Seen as tokens
-use Rattle.fn_funnel.specs.Words.{past, mine, Rests}
+use Rattle.fn_funnel.specs.Words.{Rests}
 use Rattle.tick_table.specs.declared.entry.Entry.{Entry}
 use Rattle.tick_table.specs.declared.entry.Start as tick
 use Rattle.tick_table.specs.Seen.{SeatView, TickLog}

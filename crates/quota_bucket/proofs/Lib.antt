@@ -4,3 +4,4 @@ pub mod Peeking
 pub mod Dealt
 pub mod Gathered
 pub mod Standing
+pub mod Ready

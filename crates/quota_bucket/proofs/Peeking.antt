@@ -14,7 +14,7 @@ use Rattle.fn_funnel.proofs.Funnelled.{within_cap}
 use Rattle.fn_funnel.proofs.Claims.{made_by}
 use Rattle.tick_table.specs.Seen.{SeatView}
 use Rattle.quota_bucket.specs.Seen.{BucketView, DeskView, Belongs}
-use Rattle.quota_bucket.specs.Taking.{Peeks, PeeksBy}
+use Rattle.quota_bucket.specs.Taking.{Peeks}
 use Rattle.quota_bucket.proofs.Taking.{desk}
 
 -- a read is made in the words of the history

@@ -1,23 +1,20 @@
 -- A take is its claim, its refill and its subtraction.
-use Rattle.std.proofs.Common.{◌≡◌, ℕ, zero, suc, ◌+◌, ◌-◌, ◌/◌, ◌*◌, ◌<◌, ◌≤◌, ◌==◌, List, [], ◌∷◌, ◌++◌, length, min, Option, Some, refl, sym, ap, ◌∙◌, subst, append_assoc, arith, eq-eqb, mul-pos, if◌then◌else◌}
+use Rattle.std.proofs.Common.{◌≡◌, ℕ, zero, suc, ◌+◌, ◌-◌, ◌/◌, ◌*◌, ◌<◌, ◌≤◌, ◌==◌, List, [], ◌∷◌, ◌++◌, length, min, Option, Some, refl, sym, ap, ◌∙◌, subst, append_assoc, arith, eq-eqb, mul-pos}
 use Rattle.std.proofs.lemmas.List.{length-append}
 use Rattle.std.proofs.lemmas.List.Elements.{filter-append}
 use mathlib.Core.List.{IsPrefix}
 use Rattle.fn_model.specs.declared.Call.{Call}
-use Rattle.fn_model.specs.declared.Kind.TheVariants.{Add, Sub, Read}
+use Rattle.fn_model.specs.declared.Kind.TheVariants.{Add, Sub}
 use Rattle.fn_model.specs.Calls.{place}
 use Rattle.fn_model.specs.Integer.{Meets}
 use Rattle.fn_core.specs.declared.Start.{Start}
-use Rattle.fn_table.specs.Seen.{TableView, PassView}
-use Rattle.fn_table.specs.Seen as funnel
+use Rattle.fn_table.specs.Seen.{PassView}
 use Rattle.fn_funnel.specs.declared.waiting.Added.{Added}
 use Rattle.fn_funnel.specs.Waiting.{Waited}
 use Rattle.fn_funnel.specs.Words.{past, mine, left, Rests, next_of, Made}
 use Rattle.tick_table.specs.declared.entry.Entry.{Entry}
-use Rattle.tick_table.specs.Claims.{between}
 use Rattle.tick_table.specs.Seen.{TicksView, SeatView, IsOf, Claimed, entries_of, entry}
 use Rattle.tick_table.proofs.Claims.{between_length}
-use Rattle.quota_bucket.specs.declared.desks.Taken.{Taken}
 use Rattle.quota_bucket.specs.Seen.{BucketView, DeskView, Belongs, burst}
 use Rattle.quota_bucket.specs.Places.{pass_in}
 use Rattle.quota_bucket.specs.Refill.{refill}

@@ -1,7 +1,8 @@
 //! A bucket.
-ghost use Rattle.std.specs.Prelude.{◌≤◌};
+ghost use Rattle.std.specs.Prelude.{◌≡◌, ◌≤◌};
 ghost use Rattle.fn_funnel.specs.Words.{Rests, left};
 ghost use Rattle.fn_table.specs.Seen.{IsOf};
+ghost use Rattle.quota_bucket.specs.Seen.{burst};
 ghost use Rattle.quota_bucket.specs.Taking.{Refills, RefillsBy};
 
 use crate::refills::refill;
@@ -34,11 +35,18 @@ impl Model for Bucket {
 }
 
 impl Bucket {
+    /// The most tokens that the bucket holds.
+    pub fn burst(&self) -> u64
+        ensures { result ≡ burst self.now }
+    {
+        self.funnel.cap()
+    }
+
     /// Adds the tokens of so many ticks, where there are some. It may wait for the callers of its batch.
     pub(crate) fn refill<R: Wait>(&self, rt: &R, pass: Pass, ticks: u64) -> Pass
         requires together { IsOf self.now.funnel pass }
         requires rests { Rests pass }
-        requires left { self.now.funnel.start.cap ≤ left pass }
+        requires left { burst self.now ≤ left pass }
         ensures made { Refills self.now pass ticks result }
         ensures way { RefillsBy self.now pass ticks result }
     {

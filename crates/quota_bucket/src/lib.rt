@@ -6,6 +6,7 @@ mod buckets;
 mod closing;
 mod desks;
 mod faults;
+mod moments;
 mod opening;
 mod refills;
 mod rooms;
@@ -29,3 +30,6 @@ pub fn a_refill_is_its_additions()
 pub fn takes_stand()
     ensures { TakesStand }
 {}
+
+#[cfg(test)]
+mod tests;

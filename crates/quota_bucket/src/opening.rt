@@ -15,7 +15,11 @@ use std::sync::Mutex;
 use tick_table::{TickSeat, TickTable};
 
 // The desks: each has a seat, and the pass of the same place.
-fn deal(alloc: Global, seats: Vec<TickSeat>, passes: Vec<Pass>) -> Result<Vec<BucketDesk>, AllocError>
+fn deal(
+    alloc: Global,
+    seats: Vec<TickSeat>,
+    passes: Vec<Pass>,
+) -> Result<Vec<BucketDesk>, AllocError>
     ensures { IfOk result (λ desks. desks.items ≡ map desk_of (zip seats.items passes.items)) }
 {
     let mut desks = Vec::new(alloc);
@@ -49,8 +53,13 @@ impl Bucket {
         ensures faults { MatchResult result (λ _. bucket_fault opening burst allowances.now ≡ None) (TellsFault (bucket_fault opening burst allowances.now)) }
     {
         let count = allowances.len() as u32;
-        let (funnel, passes) =
-            Funnel::open_capped(alloc, shape_for(count), opening, burst, allowances)?;
+        let (funnel, passes) = Funnel::open_capped(
+            alloc,
+            shape_for(count),
+            opening,
+            burst,
+            allowances,
+        )?;
         let (ticks, seats) = TickTable::open(alloc, start / period, count)?;
         let desks = deal(alloc, seats, passes)?;
         let rooms = Mutex::new(Rooms::new(alloc)?);

@@ -2,6 +2,7 @@
 use Rattle.std.proofs.Common.{map, ◌≡◌, ℕ, zero, suc, ◌+◌, ◌-◌, ◌<◌, List, [], ◌∷◌, ◌++◌, All, sym, ap, ◌∙◌, subst, arith}
 use Rattle.std.specs.Prelude.{Some, slice_get}
 use Rattle.std.proofs.lemmas.List.{map-append}
+use Rattle.std.proofs.lemmas.List.Elements.{All-head, All-same}
 use Rattle.running.specs.declared.Part.{Part}
 use Rattle.running.specs.Running.{Each, numbers_from}
 use Rattle.running.proofs.Numbers.{numbers_first, numbers_more}
@@ -23,11 +24,7 @@ module _ {A : Type 0} where
 
   -- what holds of all holds of the first
   pub all_head : (P : A → Type 0) (xs ys : List A) (x : A) → All P xs → xs ≡ x ∷ ys → P x
-  all_head P xs ys x holds is = let here : All P (x ∷ ys) = subst (All P) is holds in here 0 x (omega arith)
-
-  -- .. and of the rest
-  pub all_tail : (P : A → Type 0) (xs ys : List A) (x : A) → All P xs → xs ≡ x ∷ ys → All P ys
-  all_tail P xs ys x holds is = let here : All P (x ∷ ys) = subst (All P) is holds in λ i y below. here (suc i) y (omega arith)
+  all_head P xs ys x holds is = All-head P x ys (All-same P (x ∷ ys) xs (sym is) holds)
 
   -- what holds of the part of each seat holds of that of the k-th
   pub each_at : {E : Type 0} (P : Part E → Type 0) (part_of : A → Part E) (seats : List A) (k : ℕ) (seat : A) → Each P (map part_of seats) → slice_get seats k ≡ Some seat → P (part_of seat)

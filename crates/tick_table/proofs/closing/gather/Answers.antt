@@ -1,6 +1,7 @@
 use Rattle.std.proofs.Common.{◌≡◌, ap, ◌∙◌}
+use Rattle.std.proofs.lemmas.List.Elements.{All-rest}
 use Rattle.running.proofs.Keeps.{meets}
-use Rattle.running.proofs.Lists.{all_head, all_tail}
+use Rattle.running.proofs.Lists.{all_head}
 use Rattle.tick_table.specs.Ticks.{ticks}
 use Rattle.tick_table.proofs.Seats.{sits, gathering_has, gathers}
 use Rattle.tick_table.proofs.closing.gather.Goals as goal
@@ -20,5 +21,5 @@ loop-seat-preserved c =
     let j = c.join_seat.ensures in
     record {
       gathering = gathers _ _ _ _ _ _ _ _ _ i.gathering c.seat.view_is c.seat.invariant.0 j.0 j.2;
-      tables = all_tail (λ p. p.table ≡ c.args.words.now.table_id) _ _ _ i.tables c.in-Some.ensures.steps.0;
+      tables = All-rest (λ p. p.table ≡ c.args.words.now.table_id) _ _ _ c.in-Some.ensures.steps.0 i.tables;
     }

@@ -1,4 +1,4 @@
-use Rattle.std.proofs.Common.{◌≡◌, ◌<◌, ap, ◌∙◌, arith}
+use Rattle.std.proofs.Common.{◌≡◌, ap, ◌∙◌, arith}
 use Rattle.quota_bucket.specs.Seen.{BucketView}
 use Rattle.quota_bucket.specs.Refill.{refill}
 use Rattle.quota_bucket.specs.Taking.{tokens}
