@@ -3,4 +3,6 @@ pub mod Numbers
 pub mod Views
 pub mod Keeps
 pub mod Between
+pub mod Looks
+pub mod Lists
 mod Examples

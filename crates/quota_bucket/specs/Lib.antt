@@ -1,0 +1,10 @@
+pub mod Refill
+pub mod Faults
+pub mod Seen
+pub mod Opened
+pub mod Taking
+pub mod Moments
+pub mod Closed
+pub mod Places
+pub mod Rooms
+pub mod Parts
