@@ -1,6 +1,6 @@
 -- From the passes that open to what their workers hand in.
 use Rattle.std.proofs.Common.{◌≡◌, ◌-◌, ◌+◌, ◌*◌, ◌<◌, ◌≤◌, ℕ, zero, suc, List, [], ◌∷◌, length, map, get_or, slice_get, Some, Result, Ok, refl, sym, ap, ◌∙◌, subst, arith, All}
-use Rattle.std.proofs.lemmas.List.{length-map, get_or-map, get_or-replicate}
+use Rattle.std.proofs.lemmas.List.{length-map, map-id, get_or-map, get_or-replicate}
 use Rattle.std.proofs.lemmas.List.Elements.{All-map}
 use Rattle.std.proofs.lemmas.Option.{none-some, same_Some}
 use Rattle.std.specs.List.{AllZip, flat_map}
@@ -98,7 +98,7 @@ module _ {F T R : Type 0} {g : Shared F (Bor T × Unit {0}) R} {f : F} {workers 
 
     -- the passes are all of the table's
     pub numbers_are : map (λ (p : PassView). p.number) passes ≡ upto workers
-    numbers_are = ap (map (λ (p : PassView). p.number)) are.passes_are ∙ numbers are.all ∙ zip_same Works (λ n. n) (λ one. one.pass.number) own_number (upto workers) are.all are.each ∙ itself (upto workers)
+    numbers_are = ap (map (λ (p : PassView). p.number)) are.passes_are ∙ numbers are.all ∙ zip_same Works (λ n. n) (λ one. one.pass.number) own_number (upto workers) are.all are.each ∙ map-id (upto workers)
       where
         own_number : (worker : ℕ) (one : Worked R) → Works worker one → one.pass.number ≡ worker
         own_number worker one works = (has_drawn grain (fresh table worker) works.replies one.pass works.drew).number
@@ -106,10 +106,6 @@ module _ {F T R : Type 0} {g : Shared F (Bor T × Unit {0}) R} {f : F} {workers 
         numbers : (ws : List (Worked R)) → map (λ (p : PassView). p.number) (map (λ (one : Worked R). one.pass) ws) ≡ map (λ (one : Worked R). one.pass.number) ws
         numbers [] = refl
         numbers (w ∷ ws) = ap (λ ns. w.pass.number ∷ ns) (numbers ws)
-
-        itself : (ns : List ℕ) → map (λ n. n) ns ≡ ns
-        itself [] = refl
-        itself (n ∷ ns) = ap (λ ms. n ∷ ms) (itself ns)
 
     pub are_all : AreAll table passes
     are_all = numbers_are ∙ ap upto (sym are.start.has_shape.0)
