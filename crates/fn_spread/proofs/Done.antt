@@ -1,5 +1,5 @@
 -- From the passes that open to what their workers hand in.
-use Rattle.std.proofs.Common.{◌≡◌, ◌-◌, ◌+◌, ◌*◌, ◌<◌, ◌≤◌, ℕ, zero, suc, List, [], ◌∷◌, length, map, get_or, slice_get, Some, Result, Ok, refl, sym, ap, ◌∙◌, subst, arith, All}
+use Rattle.std.proofs.Common.{◌≡◌, ◌-◌, ◌+◌, ◌*◌, ◌<◌, ℕ, zero, suc, List, [], ◌∷◌, length, map, get_or, slice_get, Some, Result, Ok, refl, sym, ap, ◌∙◌, subst, arith, All}
 use Rattle.std.proofs.lemmas.List.{length-map, map-id, get_or-map, get_or-replicate}
 use Rattle.std.proofs.lemmas.List.Elements.{All-map}
 use Rattle.std.proofs.lemmas.Option.{none-some, same_Some}
@@ -7,7 +7,6 @@ use Rattle.std.specs.List.{AllZip, flat_map}
 use denote.Ref.{Bor}
 use denote.Param.Members.{Shared}
 use Rattle.running.specs.Running.{numbers_from, upto}
-use Rattle.fn_model.specs.declared.Call.{Call}
 use Rattle.fn_core.specs.State.{State, history_in}
 use Rattle.fn_core.specs.State as first
 use Rattle.fn_table.specs.Seen.{TableView, PassView, IsOf, IsWhole, AreAll, fresh}

@@ -6,7 +6,7 @@ use Rattle.fn_model.specs.Calls.{own, place}
 use Rattle.fn_model.specs.Integer.{Meets}
 use Rattle.fn_core.specs.declared.Start.{Start}
 use Rattle.fn_core.specs.Laws.{AreNumbered}
-use Rattle.fn_core.specs.Calls.{calls_in, left_of, IsIdle}
+use Rattle.fn_core.specs.Calls.{left_of, IsIdle}
 use Rattle.fn_core.proofs.Orders.{histories_go_on}
 use Rattle.fn_core.proofs.Owned.{own_calls_are_in_order}
 use Rattle.fn_table.specs.Seen.{PassView}
