@@ -21,7 +21,7 @@ race() { # the plain program and the tool in turn, so that both meet the machine
         ours=$(best "$ours" "$(once ours "$tool" tally "$workers" 64)")
     done
     cmp "$work/out.plain" <(cut -d' ' -f1-4 "$work/out.ours")
-    awk "BEGIN { printf \"%s threads: plain %.3f s, tally %.3f s: %.2f times (best of $rounds each)\n\", $workers, $plain, $ours, $ours / $plain }"
+    awk "BEGIN { printf \"%s workers: plain %.3f s, tally %.3f s: %.2f times (best of $rounds each)\n\", $workers, $plain, $ours, $ours / $plain }"
 }
 race 1 20
 race 4 20
