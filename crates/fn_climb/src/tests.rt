@@ -108,21 +108,14 @@ fn last_of(table: &FunnelTable, passes: &mut Vec<Pass>) -> Option<Pass>
     passes.pop()
 }
 
-// A member polls before its delegate.
-fn member_first(table: &FunnelTable, mut passes: Vec<Pass>) -> Option<(Why, u64, u64, u64)>
+// A member polls before its delegate: why it waits, and what both met.
+fn member_first(table: &FunnelTable, mut passes: Vec<Pass>) -> Option<(Why, (u64, u64))>
     requires { AreOpened table.now passes.items }
 {
-    let third = last_of(table, &mut passes)?;
-    let second = last_of(table, &mut passes)?;
-    let first = last_of(table, &mut passes)?;
-    let first = start(table, first, Kind::Add, 5)?;
-    let second = start(table, second, Kind::Add, 7)?;
-    let third = start(table, third, Kind::Add, 1)?;
+    let (first, second) = start_two(table, &mut passes, 5, 7)?;
     let (second, why) = waits(table, second)?;
-    let (_, one) = replies(table, first)?;
-    let (_, two) = replies(table, second)?;
-    let (_, three) = replies(table, third)?;
-    Some((why, one, two, three))
+    let replies = both_reply(table, first, second)?;
+    Some((why, replies))
 }
 
 // The replies of two calls that share a batch, and the value.
@@ -146,20 +139,42 @@ fn two_replies(
     Some((one, two, load_read(table, &mut second)))
 }
 
-// A direct addition comes between a load and its exchange.
-fn loses_once(table: &FunnelTable, mut passes: Vec<Pass>) -> Option<(Why, u64)>
-    requires opened { AreOpened table.now passes.items }
+// A direct addition of 1, where the allowance is enough.
+fn adds_past(table: &FunnelTable, mut pass: Pass) -> bool
+    requires together { IsOf table.now pass }
+    requires idle { IsIdle pass.seen pass.number }
     requires cap { table.now.start.cap ≡ NO_CAP }
 {
-    let mut second = last_of(table, &mut passes)?;
+    let _number = pass.number();
+    if pass.allowance() < 1 {
+        return false;
+    }
+    direct(table, &mut pass, 1);
+    true
+}
+
+// A subtraction whose exchange comes next, and another pass.
+fn up_to_exchange(table: &FunnelTable, mut passes: Vec<Pass>) -> Option<(Pending, Pass)>
+    requires { AreOpened table.now passes.items }
+    ensures call { IfSome result (λ r. IsOf table.now r.0) }
+    ensures other { IfSome result (λ r. IsOf table.now r.1 × IsIdle r.1.seen r.1.number) }
+{
+    let second = last_of(table, &mut passes)?;
     let first = last_of(table, &mut passes)?;
     let first = start(table, first, Kind::Sub, 4)?;
     let first = goes_on(table, first, 3)?;
-    let _number = second.number();
-    if second.allowance() < 1 {
+    Some((first, second))
+}
+
+// A direct addition comes between a load and its exchange: why it is told to wait, and what it meets.
+fn loses_once(table: &FunnelTable, passes: Vec<Pass>) -> Option<(Why, u64)>
+    requires opened { AreOpened table.now passes.items }
+    requires cap { table.now.start.cap ≡ NO_CAP }
+{
+    let (first, second) = up_to_exchange(table, passes)?;
+    if !adds_past(table, second) {
         return None;
     }
-    direct(table, &mut second, 1);
     let (first, why) = halts(table, first)?;
     let (_, reply) = replies(table, first)?;
     Some((why, reply))
@@ -175,41 +190,71 @@ fn adds_one(table: &FunnelTable, pass: Pass) -> Option<(Pass, u64)>
     replies(table, pending)
 }
 
-// One pass stalls, the other runs out of rows, and then a row is free again.
-fn runs_out(table: &FunnelTable, mut passes: Vec<Pass>) -> Option<(u64, u64, Blocked, u64, u64)>
-    requires { AreOpened table.now passes.items }
+// A pass makes two additions of 1 while another stalls, and then finds no row: what they met, and the load that names the last row.
+fn runs_out(table: &FunnelTable, first: Pending) -> Option<(Pass, (u64, u64), Blocked)>
+    requires { IsOf table.now first }
+    ensures { IfSome result (λ r. IsOf table.now r.0 × IsIdle r.0.seen r.0.number) }
 {
-    let second = last_of(table, &mut passes)?;
-    let first = last_of(table, &mut passes)?;
-    let first = start(table, first, Kind::Add, 1)?;
-    let second = start(table, second, Kind::Add, 1)?;
-    let (first, one) = replies(table, first)?;
-    let (first, two) = adds_one(table, first)?;
-    let (first, blocked) = refused(table, first, Kind::Add, 1)?;
-    let (_, three) = replies(table, second)?;
-    let (_, four) = adds_one(table, first)?;
-    Some((one, two, blocked, three, four))
+    let (pass, one) = replies(table, first)?;
+    let (pass, two) = adds_one(table, pass)?;
+    let (pass, blocked) = refused(table, pass, Kind::Add, 1)?;
+    Some((pass, (one, two), blocked))
 }
 
-// Two leaf batches go in one step on the main word.
-fn two_levels(table: &FunnelTable, mut passes: Vec<Pass>) -> Option<(u64, u64, u64, u64)>
+// One pass stalls, the other runs out of rows, and then a row is free again: what the first met, the load, and what came then.
+fn comes_back(
+    table: &FunnelTable,
+    mut passes: Vec<Pass>,
+) -> Option<((u64, u64), Blocked, (u64, u64))>
     requires { AreOpened table.now passes.items }
 {
-    let fourth = last_of(table, &mut passes)?;
-    let third = last_of(table, &mut passes)?;
-    let second = last_of(table, &mut passes)?;
-    let first = last_of(table, &mut passes)?;
-    let first = start(table, first, Kind::Add, 1)?;
-    let third = start(table, third, Kind::Add, 2)?;
-    let second = start(table, second, Kind::Add, 4)?;
-    let fourth = start(table, fourth, Kind::Add, 8)?;
-    let first = goes_on(table, first, 5)?;
-    let second = goes_on(table, second, 5)?;
+    let (first, second) = start_two(table, &mut passes, 1, 1)?;
+    let (pass, met, blocked) = runs_out(table, first)?;
+    let (_, third) = replies(table, second)?;
+    let (_, fourth) = adds_one(table, pass)?;
+    Some((met, blocked, (third, fourth)))
+}
+
+// Two additions of the last two passes begin.
+fn start_two(
+    table: &FunnelTable,
+    passes: &mut Vec<Pass>,
+    amount: u64,
+    other: u64,
+) -> Option<(Pending, Pending)>
+    requires together { All (λ p. IsOf table.now p) passes.old.items }
+    requires idle { All IsWhole passes.old.items }
+    ensures together { All (λ p. IsOf table.now p) passes.new.items }
+    ensures idle { All IsWhole passes.new.items }
+    ensures calls { IfSome result (λ r. IsOf table.now r.0 × IsOf table.now r.1) }
+{
+    let second = last_of(table, passes)?;
+    let first = last_of(table, passes)?;
+    let first = start(table, first, Kind::Add, amount)?;
+    let second = start(table, second, Kind::Add, other)?;
+    Some((first, second))
+}
+
+// What two calls met, polled one after the other.
+fn both_reply(table: &FunnelTable, first: Pending, second: Pending) -> Option<(u64, u64)>
+    requires { IsOf table.now first × IsOf table.now second }
+{
     let (_, one) = replies(table, first)?;
     let (_, two) = replies(table, second)?;
-    let (_, three) = replies(table, third)?;
-    let (_, four) = replies(table, fourth)?;
-    Some((one, two, three, four))
+    Some((one, two))
+}
+
+// Two leaf batches go in one step on the main word: what their delegates met, and what their members did.
+fn two_levels(table: &FunnelTable, mut passes: Vec<Pass>) -> Option<((u64, u64), (u64, u64))>
+    requires { AreOpened table.now passes.items }
+{
+    let (first, second) = start_two(table, &mut passes, 1, 4)?;
+    let (third, fourth) = start_two(table, &mut passes, 2, 8)?;
+    let first = goes_on(table, first, 5)?;
+    let second = goes_on(table, second, 5)?;
+    let delegates = both_reply(table, first, second)?;
+    let members = both_reply(table, third, fourth)?;
+    Some((delegates, members))
 }
 
 // A step of a call, if it hasn't ended, and its reply once it has.
@@ -308,11 +353,11 @@ fn each_stalled_call_ends(rt: HostRuntime) -> Result<(), Fail> {
 
 #[test]
 fn a_member_polls_before_its_delegate(rt: HostRuntime) -> Result<(), Fail> {
-    if let Ok(shape) = Shape::new(3, 1, 1, 2)
-        && let Ok((table, passes)) = FunnelTable::open(rt.alloc(), shape, 10, &[5, 7, 1])
+    if let Ok(shape) = Shape::new(2, 1, 1, 2)
+        && let Ok((table, passes)) = FunnelTable::open(rt.alloc(), shape, 10, &[5, 7])
     {
         let behind = Why::Behind { done: 0, at: 5 };
-        assert_eq!(rt; member_first(&table, passes), Some((behind, 10, 15, 22)));
+        assert!(rt; member_first(&table, passes) == Some((behind, (10, 15))));
         return Ok(());
     }
     assert!(&rt; false);
@@ -376,7 +421,8 @@ fn rows_run_out_and_come_back(rt: HostRuntime) -> Result<(), Fail> {
             pass: 1,
             announced: 0,
         };
-        assert_eq!(rt; runs_out(&table, passes), Some((0, 2, blocked, 1, 3)));
+        let told = comes_back(&table, passes);
+        assert!(rt; told == Some(((0, 2), blocked, (1, 3))));
         return Ok(());
     }
     assert!(&rt; false);
@@ -386,9 +432,10 @@ fn rows_run_out_and_come_back(rt: HostRuntime) -> Result<(), Fail> {
 #[test]
 fn two_leaf_batches_go_in_one_step(rt: HostRuntime) -> Result<(), Fail> {
     if let Ok(shape) = Shape::new(4, 2, 2, 2)
-        && let Ok((table, passes)) = FunnelTable::open(rt.alloc(), shape, 100, &[1, 4, 2, 8])
+        && let Ok((table, passes)) = FunnelTable::open(rt.alloc(), shape, 100, &[2, 8, 1, 4])
     {
-        assert_eq!(rt; two_levels(&table, passes), Some((100, 103, 101, 107)));
+        let told = two_levels(&table, passes);
+        assert!(rt; told == Some(((100, 103), (101, 107))));
         return Ok(());
     }
     assert!(&rt; false);

@@ -5,7 +5,7 @@ use Rattle.fn_model.specs.declared.Kind.{Kind}
 use Rattle.fn_model.specs.Calls.{count, place, own}
 use Rattle.fn_model.specs.Arrivals.{expand}
 use Rattle.fn_model.specs.Histories.{StandsIn}
-use Rattle.fn_model.specs.Integer.{after, value, before}
+use Rattle.fn_model.specs.Integer.{after, value, before, Meets}
 use Rattle.fn_model.specs.Order.{AreConsecutive, batches_of}
 use Rattle.fn_rows.specs.declared.Stage.TheVariants.{Waiting, Got}
 use Rattle.fn_rows.specs.Law.{IsLawful, IsIn, row_in_hand}
@@ -34,7 +34,7 @@ Always Holds = (start : Start) (log : List Event) → IsStart start → Legal st
 
 -- the call stands in the history at its place, and the reply is the integer that it meets there
 abbrev pub HasReply : Start → List Call → Call → ℕ → Type 0
-HasReply start past call reply = (i : ℕ) × (place call.pass call.number past ≡ Some i) × (i < length past) × (get_or past i call ≡ call) × (before start.cap start.opening past i ≡ reply)
+HasReply start past call reply = Meets start.cap start.opening past call reply
 
 -- the reply of a call that is about to leave its leaf
 abbrev pub RepliesAreRight : Type 0

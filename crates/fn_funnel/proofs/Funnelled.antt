@@ -46,7 +46,7 @@ polls_keep p (why ∷ whys) q legal polls =
     )
 
 -- a pass that makes no call has none underway
-none_underway : (core : CoreLog) (pass : ℕ) → IsLegal core → IsIdle core pass → HasCall core pass → ⊥
+pub none_underway : (core : CoreLog) (pass : ℕ) → IsLegal core → IsIdle core pass → HasCall core pass → ⊥
 none_underway core pass legal idle call =
     let fits = subst (λ (position : Position). Fits core.start.shape.levels (λ k l. stage core.start (state_in core) k l pass) position) idle (positions_fit core.start core.log legal.0 legal.1 pass) in
     false≢true (sym (ap has_come (fits call.0 1)) ∙ call.1)

@@ -1,3 +1,4 @@
 pub mod Funnelled
 pub mod Straight
 pub mod Calls
+pub mod Claims

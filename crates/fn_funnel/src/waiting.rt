@@ -8,6 +8,7 @@ ghost use Rattle.fn_table.specs.Seen.{IsOf};
 ghost use Rattle.fn_climb.specs.Steps.{IsLater};
 ghost use Rattle.fn_direct.specs.Called.{call_of, HasCalled, HasMadeNone, Tried};
 ghost use Rattle.fn_funnel.specs.Waiting.{Waited, IsAnswered, IsStraight, Exchanges, is_one_step};
+ghost use Rattle.fn_funnel.specs.Words.{Made};
 
 use crate::opening::Funnel;
 use crossbeam_utils::Backoff;
@@ -40,7 +41,8 @@ pub fn add<R: Wait>(rt: &R, funnel: &Funnel, pass: Pass, amount: u64) -> (Pass, 
     requires together { IsOf funnel.now pass }
     requires idle { IsIdle pass.seen pass.number }
     requires amount { MaySpend (state_in pass.seen) pass.number amount }
-    ensures { Waited pass Add amount result.1 result.0 }
+    ensures made { Made pass Add amount result.1.before result.0 }
+    ensures way { Waited pass Add amount result.1 result.0 }
 {
     call(rt, funnel.table(), pass, Kind::Add, amount)
 }
@@ -50,7 +52,8 @@ pub fn sub<R: Wait>(rt: &R, funnel: &Funnel, pass: Pass, amount: u64) -> (Pass, 
     requires together { IsOf funnel.now pass }
     requires idle { IsIdle pass.seen pass.number }
     requires amount { MaySpend (state_in pass.seen) pass.number amount }
-    ensures { Waited pass Sub amount result.1 result.0 }
+    ensures made { Made pass Sub amount result.1.before result.0 }
+    ensures way { Waited pass Sub amount result.1 result.0 }
 {
     call(rt, funnel.table(), pass, Kind::Sub, amount)
 }
@@ -61,7 +64,8 @@ fn call<R: Wait>(rt: &R, table: &FunnelTable, pass: Pass, kind: Kind, amount: u6
     requires idle { IsIdle pass.seen pass.number }
     requires change { IsChange kind }
     requires amount { MaySpend (state_in pass.seen) pass.number amount }
-    ensures { Waited pass kind amount result.1 result.0 }
+    ensures made { Made pass kind amount result.1.before result.0 }
+    ensures way { Waited pass kind amount result.1 result.0 }
 {
     let _in_range = pass.number();
     match begin(table, pass, kind, amount) {

@@ -9,18 +9,18 @@ pub invariant_of-pass : goal.invariant_of-pass
 invariant_of-pass g c =
     let p : CallerView g.row.T.Denot = record { seat = c.pass.inside.seat; tail = c.pass.inside.tail; head = c.pass.inside.head; free = c.pass.inside.free; items = c.pass.inside.items } in
     let q : CallerView g.row.T.Denot = record p { items = c.sub-items.result.0 } in
-    kept_empty p c.pass.invariant q (record { items = (c.sub-items.result.1, c.sub-items.ensures, c.if-there-eq0.true); rest = refl })
+    kept_empty p c.pass.invariant q (record { items = (c.sub-items.result.1, c.sub-items.ensures.way, c.if-there-eq0.true); rest = refl })
 
 pub invariant_of-pass-2 : goal.invariant_of-pass-2
 invariant_of-pass-2 g c =
     let p : CallerView g.row.T.Denot = record { seat = c.pass.inside.seat; tail = c.pass.inside.tail; head = c.pass.inside.head; free = c.pass.inside.free; items = c.pass.inside.items } in
     let q : CallerView g.row.T.Denot = record { seat = c.remove_in_turn-item.new.seat; tail = c.pass.inside.tail; head = c.add-head.result.0; free = c.add-free.result.0; items = c.sub-items.result.0 } in
-    let taken = taken_of p q c.remove_in_turn-item.result c.sub-items.result.1 c.add-head.result.1 c.add-free.result.1 c.sub-items.ensures c.if-there-eq0.false c.add-head.ensures c.add-free.ensures refl c.remove_in_turn-item.ensures.taken in
+    let taken = taken_of p q c.remove_in_turn-item.result c.sub-items.result.1 c.add-head.result.1 c.add-free.result.1 c.sub-items.ensures.way c.if-there-eq0.false c.add-head.ensures.way c.add-free.ensures.way refl c.remove_in_turn-item.ensures.taken in
     kept_taken p q c.remove_in_turn-item.ensures.same.1 c.remove_in_turn-item.ensures.same.2 c.pass.invariant c.add-head.result.1.before c.remove_in_turn-item.result taken
 
 pub returns-clause-outcome : goal.returns-clause-outcome
 returns-clause-outcome g c =
     let p : CallerView g.row.T.Denot = record { seat = c.pass.inside.seat; tail = c.pass.inside.tail; head = c.pass.inside.head; free = c.pass.inside.free; items = c.pass.inside.items } in
     let q : CallerView g.row.T.Denot = record { seat = c.remove_in_turn-item.new.seat; tail = c.pass.inside.tail; head = c.add-head.result.0; free = c.add-free.result.0; items = c.sub-items.result.0 } in
-    let taken = taken_of p q c.remove_in_turn-item.result c.sub-items.result.1 c.add-head.result.1 c.add-free.result.1 c.sub-items.ensures c.if-there-eq0.false c.add-head.ensures c.add-free.ensures refl c.remove_in_turn-item.ensures.taken in
+    let taken = taken_of p q c.remove_in_turn-item.result c.sub-items.result.1 c.add-head.result.1 c.add-free.result.1 c.sub-items.ensures.way c.if-there-eq0.false c.add-head.ensures.way c.add-free.ensures.way refl c.remove_in_turn-item.ensures.taken in
     subst (λ (x : CallerView g.row.T.Denot). HasTaken x c.add-head.result.1.before c.remove_in_turn-item.result q) c.pass.view_is taken

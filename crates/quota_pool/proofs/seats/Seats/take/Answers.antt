@@ -13,6 +13,6 @@ returns g c =
     let answer : Moved = record { before = c.sub-pass.result.1.before; moved = c.min.result; way = Some c.sub-pass.result.1.way } in
     let p = c.take_at-pass.result in
     let q = c.sub-pass.result.0 in
-    let called : Called p Sub true c.args.amount answer q = taken_by p q c.args.amount c.sub-pass.result.1 c.min.result c.sub-pass.ensures c.min.ensures in
+    let called : Called p Sub true c.args.amount answer q = taken_by p q c.args.amount c.sub-pass.result.1 c.min.result c.sub-pass.ensures.way c.min.ensures in
     makes_call c.args.self.now c.self.inside.worker c.self.inside.passes c.deref_mut.result.now c.take_at-pass.new.places c.args.tenant q c.self.view_is c.self.invariant c.deref_mut.ensures.value c.take_at-pass.ensures.rest
     c.args.pool.now c.requires.together p Sub true c.args.amount answer c.take_at-pass.ensures.pass called
