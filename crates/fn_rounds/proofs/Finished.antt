@@ -1,18 +1,16 @@
 -- The lanes of a script's lines, from the opening of its table to its book.
-use Rattle.std.proofs.Common.{◌≡◌, ◌≢◌, ◌⊎◌, inl, inr, ◌+◌, ◌-◌, ◌<◌, ◌≤◌, ℕ, zero, suc, List, [], ◌∷◌, ◌++◌, Option, Some, None, Result, Ok, Err, Vec, IfOk, IfSome, IsSomeAnd, length, map, take, drop, slice_get, get_or, codes, decimal, refl, sym, ap, ◌∙◌, subst, arith}
+use Rattle.std.proofs.Common.{◌≡◌, inl, inr, ◌+◌, ◌<◌, ◌≤◌, ℕ, zero, suc, List, [], ◌∷◌, ◌++◌, Option, Some, None, Result, Ok, Err, Vec, IfOk, IfSome, IsSomeAnd, length, map, take, drop, slice_get, get_or, codes, decimal, refl, sym, ap, ◌∙◌, subst, arith}
 use Rattle.std.proofs.lemmas.Bool.{cases_lt}
 use Rattle.std.proofs.lemmas.List.{length-map}
-use Rattle.std.proofs.lemmas.List.Elements.{All-head, All-tail, All-cons, All-map}
+use Rattle.std.proofs.lemmas.List.Elements.{All-cons, All-map}
 use Rattle.std.proofs.lemmas.List.FromFn.{get_or-map-range_with_len}
-use Rattle.std.proofs.lemmas.Option.{same_Some, none-some, slice_get-map, slice_get-get_or, slice_get_within, get_or_from_slice_get}
+use Rattle.std.proofs.lemmas.Option.{slice_get-map, slice_get_within, get_or_from_slice_get}
 use Rattle.std.specs.List.{All}
 use Rattle.std.specs.Option.{option_map}
 use Rattle.std.specs.declared.alloc.Global.{Global}
 use mathlib.Core.List.{IsPrefix}
-use Rattle.running.specs.Running.{numbers_from, upto}
+use Rattle.running.specs.Running.{numbers_from}
 use Rattle.running.proofs.Logs.{prefix_more}
-use Rattle.fn_model.specs.declared.Call.{Call}
-use Rattle.fn_model.specs.declared.Kind.{Kind}
 use Rattle.fn_model.specs.Calls.{own}
 use Rattle.fn_model.specs.Integer.{value, Meets}
 use Rattle.fn_core.specs.declared.Event.{Event}
@@ -33,7 +31,7 @@ use Rattle.fn_rounds.specs.InOrder.{numbered, MadeInOrder}
 use Rattle.fn_rounds.specs.Lanes.{MayMakeAll}
 use Rattle.fn_rounds.specs.Rounds.{AreStarted, AreAllInOrder}
 use Rattle.fn_rounds.specs.Script.{order_of, orders_of, call_after, reply_lines, IsChangeOrder, AreTold, TellsRounds, IsBookOf}
-use Rattle.fn_rounds.specs.Dealing.{OpensFor, lane_for, lanes_for, IsDone, AreDone, answers_of, replies_of}
+use Rattle.fn_rounds.specs.Dealing.{OpensFor, lane_for, lanes_for, AreDone, answers_of, replies_of}
 use Rattle.fn_rounds.proofs.LineOrders.{no_orders, each_order, asked_within, orders_split}
 use Rattle.fn_rounds.proofs.Gathered.{answer_at}
 use Rattle.fn_rounds.proofs.InBook.{none_outside, fresh_rests, fresh_left, its_calls, as_many, its_reply}

@@ -1,16 +1,16 @@
 -- What the lines of a script ask of each pass.
-use Rattle.std.proofs.Common.{◌≡◌, ◌≢◌, ◌+◌, ◌<◌, ◌≤◌, ◌==◌, ℕ, zero, suc, Bool, true, false, cond, List, [], ◌∷◌, ◌++◌, Option, Some, None, length, map, filter, take, drop, slice_get, get_or, refl, sym, ap, ◌∙◌, subst, arith, inl, inr, eq-eqb, ne_eqb, append-nil, take-append-drop, if◌then◌else◌}
+use Rattle.std.proofs.Common.{◌≡◌, ◌≢◌, ◌+◌, ◌<◌, ◌≤◌, ◌==◌, ℕ, Bool, true, cond, List, [], ◌∷◌, ◌++◌, Some, length, map, filter, take, drop, slice_get, get_or, refl, sym, ap, ◌∙◌, arith, inl, inr, eq-eqb, ne_eqb, append-nil, take-append-drop, if◌then◌else◌}
 use Rattle.std.proofs.lemmas.Bool.{cases_eq, false≢true}
 use Rattle.std.proofs.lemmas.List.{map-append, drop_more, length-append, length-map}
-use Rattle.std.proofs.lemmas.List.Elements.{All-head, All-tail, All-cons, All-filter, All-map, filter-append}
+use Rattle.std.proofs.lemmas.List.Elements.{All-head, All-tail, All-filter, All-map, filter-append}
 use Rattle.std.proofs.lemmas.List.Sums.{sum_by-cons, length-filter, count_by-le-length}
-use Rattle.std.proofs.lemmas.Option.{none-some, slice_get_within, slice_get-get_or, get_or_from_slice_get}
-use Rattle.std.specs.List.{All, sum_by}
+use Rattle.std.proofs.lemmas.Option.{slice_get_within, slice_get-get_or, get_or_from_slice_get}
+use Rattle.std.specs.List.{All}
 use Rattle.fn_model.specs.declared.Kind.{Kind}
 use Rattle.trace_text.specs.Order.{amount}
 use Rattle.trace_text.specs.Sound.{HasPasses, HasAmount, allowance}
 use Rattle.trace_text.specs.declared.scripts.Order.{Order}
-use Rattle.trace_text.specs.declared.scripts.Order.TheVariants.{Add, Sub, Direct, SubDirect, Read, Step, Poll, Meet}
+use Rattle.trace_text.specs.declared.scripts.Order.TheVariants.{Add, Sub}
 use Rattle.trace_text.specs.declared.scripts.ScriptLine.{ScriptLine}
 use Rattle.fn_rounds.specs.InOrder.{asked}
 use Rattle.fn_rounds.specs.Lanes.{IsOrder}

@@ -1,7 +1,6 @@
-use Rattle.std.proofs.Common.{◌<◌, ◌≤◌, ◌≡◌, ◌∙◌, ℕ, List, length, get_or, ap, arith, take_all, subst}
-use Rattle.fn_rounds.specs.Dealing.{replies_of}
+use Rattle.std.proofs.Common.{◌<◌, length, ap, arith}
 use Rattle.fn_rounds.proofs.LineOrders.{no_line}
-use Rattle.fn_rounds.proofs.Gathered.{its_place, place_is, few_before, reply_left, replies_found, come_more}
+use Rattle.fn_rounds.proofs.Gathered.{place_is, few_before, reply_left, replies_found, come_more}
 use Rattle.fn_rounds.proofs.answering.answers.Goals as goal
 
 pub overflow_add-at : goal.overflow_add-at

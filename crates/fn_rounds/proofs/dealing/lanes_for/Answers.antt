@@ -1,4 +1,4 @@
-use Rattle.std.proofs.Common.{◌≡◌, ◌<◌, ◌++◌, ◌∷◌, [], refl, ap, ◌∙◌, arith, get_or, length}
+use Rattle.std.proofs.Common.{◌<◌, ◌++◌, ◌∷◌, [], ap, ◌∙◌, arith, length}
 use Rattle.fn_rounds.specs.declared.lanes.Lane.{Lane}
 use Rattle.fn_rounds.proofs.Dealt.{dealt_more}
 use Rattle.fn_rounds.proofs.LineOrders.{no_line}

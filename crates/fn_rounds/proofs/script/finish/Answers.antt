@@ -1,5 +1,4 @@
-use Rattle.std.proofs.Common.{◌≡◌, ◌++◌, ◌∙◌, ap, codes, decimal}
-use Rattle.trace_text.specs.declared.scripts.ScriptLine.{ScriptLine}
+use Rattle.std.proofs.Common.{◌≡◌, ◌++◌, ◌∙◌, codes, decimal}
 use Rattle.fn_rounds.specs.Script.{reply_lines}
 use Rattle.fn_rounds.proofs.Finished as finished
 use Rattle.fn_rounds.proofs.script.finish.Goals as goal

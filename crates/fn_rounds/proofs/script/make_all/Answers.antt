@@ -1,4 +1,3 @@
-use Rattle.std.proofs.Common.{◌≡◌}
 use Rattle.fn_rounds.proofs.Finished.{all_have_made}
 use Rattle.fn_rounds.proofs.script.make_all.Goals as goal
 

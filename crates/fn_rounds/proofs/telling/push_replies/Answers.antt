@@ -1,4 +1,4 @@
-use Rattle.std.proofs.Common.{◌++◌, List, ℕ, arith}
+use Rattle.std.proofs.Common.{◌++◌, arith}
 use Rattle.fn_rounds.specs.Script.{reply_lines}
 use Rattle.fn_rounds.proofs.Gathered.{line_pushed, lines_pushed}
 use Rattle.fn_rounds.proofs.telling.push_replies.Goals as goal
