@@ -16,7 +16,7 @@ use std::random::RandomSource;
 use std::sync::Wait;
 use std::test::*;
 
-/// A request at a limiter: it is let through where less than the limit was asked for before it.
+/// A request at a limiter: it is let through where the integer that it meets is below the limit.
 #[derive(Drop)]
 pub struct Request<'a> {
     call: AddFuture<'a>,
@@ -60,7 +60,7 @@ where
     let Ok(second) = AddFuture::new(table, second, amount) else {
         return None;
     };
-    // The second is polled before the first, whose batch it is in.
+    // Polled first, the second waits where its batch has the first one's call at its head.
     match block_on(rt, join(second, first)) {
         Ok((second, first)) => Some((first, second)),
         Err(_) => None,
