@@ -1,5 +1,5 @@
 #!/usr/bin/env bash
-# Runs the tool with one request for memory refused, each in turn, and says how often each ending came. Fails where a run that was refused has written something.
+# Runs the tool with one request for memory refused, each in turn, and says how often each ending came. Fails where a run that was refused ended otherwise than with status 6, its line and nothing written, or than with status 0.
 # Usage: bench/refused.sh INPUT WORDS.., as bench/refused.sh examples/quota.csv replay 1
 # Wants the proved program (./.ci/run, or rt run in crates/funnel_tool) and rustc.
 set -euo pipefail
@@ -18,7 +18,9 @@ while [ "$done_in_a_row" -lt 40 ]; do
         if cmp -s "$work/out" "$work/whole"; then echo "done"; else echo "done, with another text"; fi
     else
         done_in_a_row=0
+        line=$(cat "$work/err")
+        [ "$status" = 6 ] && [ "$line" = "no memory" ] || { echo "request $number: status $status, and the line '$line'" >&2; exit 1; }
         [ ! -s "$work/out" ] || { echo "request $number: status $status, and something was written" >&2; exit 1; }
-        echo "status $status: $(cat "$work/err")"
+        echo "status $status: $line"
     fi
 done | sort | uniq -c

@@ -14,27 +14,35 @@ mod trace_tests;
 mod trial;
 #[cfg(test)]
 mod trial_tests;
+mod words;
 
 use edge_io::{StdSink, StdSource};
 use replay_run::OpenGate;
-use run::run;
-use std::env;
+use run::{run, tell};
 use std::process::ExitCode;
+use words::gather_words;
 
-fn main(rt: HostRuntime) -> Result<ExitCode, std::io::Error> {
-    let alloc = rt.alloc();
-    let words: Vec<String> = env::args(&rt)?.skip(1).collect(alloc)?;
-    let mut out = StdSink::out(rt.clone()?);
-    let mut err = StdSink::err(rt.clone()?);
-    let mut source = StdSource::new(rt.clone()?);
-    let outcome = run(
-        &rt,
-        alloc,
-        &words,
-        &mut source,
-        &mut out,
-        &mut err,
-        &OpenGate,
-    );
-    Ok(ExitCode::from(outcome.status))
+fn main(rt: HostRuntime) -> ExitCode {
+    let mut err = StdSink::err(rt);
+    let status = match gather_words(&rt, rt.alloc()) {
+        Ok(words) => {
+            let mut source = StdSource::new(rt);
+            let mut out = StdSink::out(rt);
+            run(
+                &rt,
+                rt.alloc(),
+                &words,
+                &mut source,
+                &mut out,
+                &mut err,
+                &OpenGate,
+            )
+            .status
+        }
+        Err(ending) => {
+            tell(&mut err, ending);
+            ending.status()
+        }
+    };
+    ExitCode::from(status)
 }

@@ -233,8 +233,8 @@ fn write_text<K: Sink>(out: &mut K, text: &[u8]) -> Ending
     }
 }
 
-// Writes the line of an ending, as far as the sink takes it.
-fn tell<E: Sink>(err: &mut E, ending: Ending)
+/// Writes the line of an ending, as far as the sink takes it.
+pub fn tell<E: Sink>(err: &mut E, ending: Ending)
     ensures line { AppendsFront (E.held err.old) (E.held err.new) (error_line ending)
         (Rose (E.faults err.old) (E.faults err.new) ⊎ Rose (E.empty_writes err.old) (E.empty_writes err.new)) }
     ensures quiet { ending ≡ Ending.Done → err.new ≡ err.old }
