@@ -13,4 +13,6 @@ pub enum Command {
     Drill { seed: u64, rows: u64, workers: u32 },
     /// passes lines through a queue
     Relay { workers: u32, capacity: u32 },
+    /// makes a script's additions and subtractions in turns, all in one thread
+    Rounds,
 }

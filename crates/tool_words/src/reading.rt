@@ -65,6 +65,7 @@ fn command_as(verb: Verb, matches: &ArgMatches) -> Option<Command>
             let capacity = number_in(matches, "second", 1, 65_536)? as u32;
             Some(Command::Relay { workers, capacity })
         }
+        Verb::Rounds => Some(Command::Rounds),
     }
 }
 

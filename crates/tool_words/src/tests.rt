@@ -38,6 +38,7 @@ fn words_ask_for_commands(rt: HostRuntime) -> Result<(), Fail> {
         ("drill -- 0 1 1", drill(0, 1, 1)),
         ("drill 1000000 1000000 64", drill(1_000_000, 1_000_000, 64)),
         ("relay 2 65536", relay(2, 65_536)),
+        ("rounds", Some(Command::Rounds)),
         ("", None),
         ("sum", None),
         ("play 1", None),
@@ -54,6 +55,7 @@ fn words_ask_for_commands(rt: HostRuntime) -> Result<(), Fail> {
         ("drill -1 1 1", None),
         ("drill 1 1", None),
         ("relay 1 65537", None),
+        ("rounds x", None),
     ] {
         assert_eq!(rt; read(&rt, line)?, command);
     }

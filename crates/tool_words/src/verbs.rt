@@ -10,6 +10,7 @@ pub enum Verb {
     Replay,
     Drill,
     Relay,
+    Rounds,
 }
 
 /// The verb that a word is.
@@ -23,6 +24,7 @@ pub fn verb_of(word: &str) -> Option<Verb>
         "replay" => Some(Verb::Replay),
         "drill" => Some(Verb::Drill),
         "relay" => Some(Verb::Relay),
+        "rounds" => Some(Verb::Rounds),
         _ => None,
     }
 }
@@ -33,7 +35,7 @@ pub fn count_of(verb: Verb) -> usize
     ensures few { result ≤ 4 }
 {
     match verb {
-        Verb::Play | Verb::Trial => 0,
+        Verb::Play | Verb::Trial | Verb::Rounds => 0,
         Verb::Replay => 1,
         Verb::Drill => 3,
         Verb::Relay => 2,
