@@ -1,17 +1,21 @@
 -- A run whose input is accepted.
-use Rattle.std.proofs.Common.{◌≡◌, ◌⊎◌, ◌<◌, ◌≤◌, ℕ, zero, suc, List, [], Option, None, Some, length, refl, sym, ◌∙◌, ap, subst, arith, inl, inr, append-nil, length-append}
+use Rattle.std.proofs.Common.{◌≡◌, ◌⊎◌, ◌<◌, ◌≤◌, ℕ, zero, suc, List, [], ◌∷◌, Option, None, Some, length, refl, sym, ◌∙◌, ap, subst, arith, inl, inr, append-nil, length-append}
 use Rattle.std.specs.Io.KnownBytes.{Consumes, IsAtEnd}
+use Rattle.std.specs.List.{All}
+use Rattle.std.proofs.lemmas.List.Elements.{All-head, All-tail}
 use Rattle.running.specs.Running.{numbers_from, upto}
 use Rattle.trace_text.specs.Script.{content}
 use Rattle.trace_text.specs.declared.scripts.Script.{Script}
+use Rattle.trace_text.specs.declared.scripts.ScriptLine.{ScriptLine}
+use Rattle.fn_rounds.specs.Script.{IsChangeOrder, other_order}
 use Rattle.tool_words.specs.declared.commands.Command.{Command}
-use Rattle.tool_words.specs.declared.commands.Command.TheVariants.{Play, Trial, Replay, Drill, Relay}
+use Rattle.tool_words.specs.declared.commands.Command.TheVariants.{Play, Trial, Replay, Drill, Relay, Rounds}
 use Rattle.funnel_tool.specs.Outcome.{Accepts, Ends, HasInput, Input, IsAccepted, IsCalm, IsComplete, IsRefused, Output, Reads, Refuses, status_of}
 use Rattle.funnel_tool.specs.Trial.{IsHalted}
 use Rattle.funnel_tool.specs.declared.ending.Ending.{Ending}
 use Rattle.funnel_tool.specs.declared.ending.Ending.TheVariants.{Done, Words, Refused, ReadFailed, WriteFailed, WriteStuck, NoMemory}
 use Rattle.funnel_tool.specs.declared.ending.Refusal.{Refusal}
-use Rattle.funnel_tool.specs.declared.ending.Refusal.TheVariants.{TooLong, ByScript, ByPlay, ByTrace, TooManyLines}
+use Rattle.funnel_tool.specs.declared.ending.Refusal.TheVariants.{TooLong, ByScript, ByPlay, ByTrace, TooManyLines, ByOrder}
 use Rattle.funnel_tool.specs.declared.ending.TheConstants.{INPUT_LIMIT}
 use Rattle.funnel_tool.specs.declared.play.PlayFault.{PlayFault}
 use Rattle.funnel_tool.specs.declared.run.Outcome.{Outcome}
@@ -38,6 +42,7 @@ way-of command input (ByScript fault) callers refused = inr refused
 way-of command input (ByPlay fault) callers refused = inr refused
 way-of command input (ByTrace fault) callers refused = inr refused
 way-of command input (TooManyLines at) callers refused = inr refused
+way-of command input (ByOrder at) callers refused = inr refused
 
 -- .. but not too many where all are few
 not-many : (input : Input) (bytes given : List ℕ) → input.left ≡ Some bytes → length bytes ≤ INPUT_LIMIT → Consumes input.left input.left_then given → INPUT_LIMIT < length given → ⊥
@@ -56,6 +61,7 @@ play-accepts bytes (ByPlay fault) callers accepted refuses =
     cc (sym accepted.3 ∙ same-text accepted.0 refuses.0 same ∙ refuses.2.0)
 play-accepts bytes (ByTrace fault) callers accepted refuses = refuses
 play-accepts bytes (TooManyLines at) callers accepted refuses = refuses
+play-accepts bytes (ByOrder at) callers accepted refuses = refuses
 
 -- so many numbers
 length-numbers_from : (first count : ℕ) → length (numbers_from first count) ≡ count
@@ -76,6 +82,7 @@ trial-accepts bytes (ByScript fault) callers accepted refuses none = cc (sym acc
 trial-accepts bytes (ByPlay fault) callers accepted refuses none = has-callers refuses.0 fault callers refuses.2 none
 trial-accepts bytes (ByTrace fault) callers accepted refuses none = refuses
 trial-accepts bytes (TooManyLines at) callers accepted refuses none = refuses
+trial-accepts bytes (ByOrder at) callers accepted refuses none = refuses
 
 replay-accepts : (workers : ℕ) (bytes : List ℕ) (why : Refusal) (callers : List Caller) → IsAccepted (Replay workers) bytes → Refuses (Replay workers) bytes why callers → ⊥
 replay-accepts workers bytes TooLong callers accepted refuses = refuses
@@ -83,6 +90,7 @@ replay-accepts workers bytes (ByScript fault) callers accepted refuses = refuses
 replay-accepts workers bytes (ByPlay fault) callers accepted refuses = refuses
 replay-accepts workers bytes (ByTrace fault) callers accepted refuses = cc (sym accepted.1 ∙ refuses.0)
 replay-accepts workers bytes (TooManyLines at) callers accepted refuses = refuses
+replay-accepts workers bytes (ByOrder at) callers accepted refuses = refuses
 
 relay-accepts : (workers capacity : ℕ) (bytes : List ℕ) (why : Refusal) (callers : List Caller) → IsAccepted (Relay workers capacity) bytes → Refuses (Relay workers capacity) bytes why callers → ⊥
 relay-accepts workers capacity bytes TooLong callers accepted refuses = refuses
@@ -90,6 +98,23 @@ relay-accepts workers capacity bytes (ByScript fault) callers accepted refuses =
 relay-accepts workers capacity bytes (ByPlay fault) callers accepted refuses = refuses
 relay-accepts workers capacity bytes (ByTrace fault) callers accepted refuses = refuses
 relay-accepts workers capacity bytes (TooManyLines at) callers accepted refuses = (let many = refuses.0 in absurd (omega arith))
+relay-accepts workers capacity bytes (ByOrder at) callers accepted refuses = refuses
+
+-- a script of additions and subtractions has no line with another order
+no_other : (lines : List ScriptLine) → All (λ line. IsChangeOrder line.order) lines → other_order lines ≡ None
+no_other [] changes = refl
+no_other (line ∷ lines) changes = rw (All-head (λ l. IsChangeOrder l.order) line lines changes) (no_other lines (All-tail (λ l. IsChangeOrder l.order) line lines changes))
+
+rounds-accepts : (bytes : List ℕ) (why : Refusal) (callers : List Caller) → IsAccepted Rounds bytes → Refuses Rounds bytes why callers → ⊥
+rounds-accepts bytes TooLong callers accepted refuses = refuses
+rounds-accepts bytes (ByScript fault) callers accepted refuses = cc (sym accepted.1 ∙ refuses.0)
+rounds-accepts bytes (ByPlay fault) callers accepted refuses = refuses
+rounds-accepts bytes (ByTrace fault) callers accepted refuses = refuses
+rounds-accepts bytes (TooManyLines at) callers accepted refuses = refuses
+rounds-accepts bytes (ByOrder at) callers accepted refuses =
+    let same : content accepted.0 ≡ content refuses.0 = cc (sym accepted.1 ∙ refuses.1) in
+    let lines : accepted.0.lines ≡ refuses.0.lines = ap (λ c. c.lines) same in
+    cc (sym refuses.2 ∙ ap other_order (sym lines) ∙ no_other accepted.0.lines accepted.2)
 
 -- a command that accepts its input isn't refused
 not-refused : (command : Command) (input : Input) (why : Refusal) (callers : List Caller) → Accepts command input.left → callers ≡ [] → Way command input why callers → ⊥
@@ -107,6 +132,9 @@ not-refused (Drill seed rows workers) input why callers accepts none (inr read) 
 not-refused (Relay workers capacity) input why callers accepts none (inl long) = not-many input accepts.0 long.0 accepts.1 accepts.2 long.1 long.2
 not-refused (Relay workers capacity) input why callers accepts none (inr read) =
     relay-accepts workers capacity read.0 why callers (rw (told-all input accepts.0 read.0 accepts.1 read.1.0 read.1.1) at accepts.3) read.2
+not-refused Rounds input why callers accepts none (inl long) = not-many input accepts.0 long.0 accepts.1 accepts.2 long.1 long.2
+not-refused Rounds input why callers accepts none (inr read) =
+    rounds-accepts read.0 why callers (rw (told-all input accepts.0 read.0 accepts.1 read.1.0 read.1.1) at accepts.3) read.2
 
 some-same : (a b : Command) (asked : Option Command) → asked ≡ Some a → asked ≡ Some b → a ≡ b
 some-same a b asked first second = cc (sym first ∙ second)

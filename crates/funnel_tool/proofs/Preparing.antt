@@ -1,29 +1,22 @@
 -- From what the parts of a run give to how it ends.
 use Rattle.std.proofs.Common.{◌≡◌, ℕ, List, [], Option, None, Some, Result, Ok, Err}
-use Rattle.fn_core.specs.Calls.{CoreLog}
+use Rattle.fn_core.specs.Calls.{CoreLog, calls_in}
+use Rattle.fn_rounds.specs.Script.{IsBookOf, TellsRounds}
 use Rattle.trace_text.specs.Script.{script_of, content}
 use Rattle.trace_text.specs.declared.scripts.Script.{Script}
 use Rattle.tool_words.specs.declared.commands.Command.{Command}
-use Rattle.tool_words.specs.declared.commands.Command.TheVariants.{Play, Trial, Replay, Drill, Relay}
-use Rattle.funnel_tool.specs.Outcome.{Ends, HasInput, Input, IsRefused, Output, Reads, ReadsAll, Refuses, Stops, WritesNothing}
-use Rattle.funnel_tool.specs.Telling.{CantTell, Finishes, HasBook, IsPrepared, IsTelling, IsUnread}
+use Rattle.tool_words.specs.declared.commands.Command.TheVariants.{Play, Trial, Replay, Drill, Relay, Rounds}
+use Rattle.funnel_tool.specs.Outcome.{Ends, HasChanges, Input, IsRefused, Output, Reads, Refuses, Stops, WritesNothing}
+use Rattle.funnel_tool.specs.Telling.{CantTell, Finishes, HasBook, IsPrepared, IsTelling}
 use Rattle.funnel_tool.specs.Trial.{TellsTrial}
 use Rattle.funnel_tool.specs.declared.ending.Ending.{Ending}
 use Rattle.funnel_tool.specs.declared.ending.Ending.TheVariants.{Done, Words, Refused, ReadFailed, WriteFailed, WriteStuck, NoMemory}
 use Rattle.funnel_tool.specs.declared.ending.Refusal.{Refusal}
-use Rattle.funnel_tool.specs.declared.ending.Refusal.TheVariants.{TooLong, ByScript, ByPlay, ByTrace, TooManyLines}
+use Rattle.funnel_tool.specs.declared.ending.Refusal.TheVariants.{TooLong, ByScript, ByPlay, ByTrace, TooManyLines, ByOrder}
 use Rattle.funnel_tool.specs.declared.run.Outcome.{Outcome}
 use Rattle.funnel_tool.specs.declared.telling.Told.{Told}
 use Rattle.funnel_tool.specs.declared.telling.Untold.{Untold}
 use Rattle.funnel_tool.specs.declared.trial.Caller.{Caller}
-
--- a command with input reads it all
-pub reads-all : (command : Command) (input : Input) (bytes : List ℕ) → HasInput command → ReadsAll input bytes → Reads command input bytes
-reads-all Play input bytes has reads = reads
-reads-all Trial input bytes has reads = reads
-reads-all (Replay workers) input bytes has reads = reads
-reads-all (Drill seed rows workers) input bytes has reads = absurd has
-reads-all (Relay workers capacity) input bytes has reads = reads
 
 -- no bytes that were read are refused as too many
 not-long : (command : Command) (bytes : List ℕ) (callers : List Caller) → Refuses command bytes TooLong callers → ⊥
@@ -32,6 +25,7 @@ not-long Trial bytes callers refuses = refuses
 not-long (Replay workers) bytes callers refuses = refuses
 not-long (Drill seed rows workers) bytes callers refuses = refuses
 not-long (Relay workers capacity) bytes callers refuses = refuses
+not-long Rounds bytes callers refuses = refuses
 
 refused-read : (command : Command) (input : Input) (bytes : List ℕ) (why : Refusal) (callers : List Caller) → Reads command input bytes → Refuses command bytes why callers → IsRefused command input why callers
 refused-read command input bytes TooLong callers reads refuses = absurd (not-long command bytes callers refuses)
@@ -39,6 +33,7 @@ refused-read command input bytes (ByScript fault) callers reads refuses = (bytes
 refused-read command input bytes (ByPlay fault) callers reads refuses = (bytes, reads, refuses)
 refused-read command input bytes (ByTrace fault) callers reads refuses = (bytes, reads, refuses)
 refused-read command input bytes (TooManyLines at) callers reads refuses = (bytes, reads, refuses)
+refused-read command input bytes (ByOrder at) callers reads refuses = (bytes, reads, refuses)
 
 cant-stop : (command : Command) (asked : Option Command) (input : Input) (bytes : List ℕ) (ending : Ending) (callers : List Caller) → asked ≡ Some command → Reads command input bytes
     → CantTell command bytes ending callers → Stops asked input ending callers
@@ -84,29 +79,8 @@ pub book-telling : (bytes : List ℕ) (script : Script) (text : List ℕ) (book 
 book-telling bytes script text book (Ok told) read tells has = (script, book, read, rw has.0 tells, has.1, has.2, has.3)
 book-telling bytes script text book (Err untold) read tells has = rw has.0 has.1
 
--- bytes that are no script, or memory ran out
-pub unread-cant_play : (bytes : List ℕ) (ending : Ending) (callers : List Caller) → IsUnread bytes ending callers → CantTell Play bytes ending callers
-unread-cant_play bytes Done callers unread = unread
-unread-cant_play bytes Words callers unread = unread
-unread-cant_play bytes (Refused TooLong) callers unread = unread
-unread-cant_play bytes (Refused (ByScript fault)) callers unread = unread
-unread-cant_play bytes (Refused (ByPlay fault)) callers unread = absurd unread
-unread-cant_play bytes (Refused (ByTrace fault)) callers unread = unread
-unread-cant_play bytes (Refused (TooManyLines at)) callers unread = unread
-unread-cant_play bytes ReadFailed callers unread = unread
-unread-cant_play bytes WriteFailed callers unread = unread
-unread-cant_play bytes WriteStuck callers unread = unread
-unread-cant_play bytes NoMemory callers unread = unread
-
-pub unread-cant_trial : (bytes : List ℕ) (ending : Ending) (callers : List Caller) → IsUnread bytes ending callers → CantTell Trial bytes ending callers
-unread-cant_trial bytes Done callers unread = unread
-unread-cant_trial bytes Words callers unread = unread
-unread-cant_trial bytes (Refused TooLong) callers unread = unread
-unread-cant_trial bytes (Refused (ByScript fault)) callers unread = unread
-unread-cant_trial bytes (Refused (ByPlay fault)) callers unread = absurd unread
-unread-cant_trial bytes (Refused (ByTrace fault)) callers unread = unread
-unread-cant_trial bytes (Refused (TooManyLines at)) callers unread = unread
-unread-cant_trial bytes ReadFailed callers unread = unread
-unread-cant_trial bytes WriteFailed callers unread = unread
-unread-cant_trial bytes WriteStuck callers unread = unread
-unread-cant_trial bytes NoMemory callers unread = unread
+-- .. and likewise of calls in turns
+pub rounds-telling : (bytes : List ℕ) (script : Script) (text : List ℕ) (book : CoreLog) (result : Result Told Untold) → script_of bytes ≡ Ok (content script) → HasChanges script
+    → TellsRounds script text (calls_in book) → IsBookOf script book → HasBook text book result → IsTelling Rounds bytes result
+rounds-telling bytes script text book (Ok told) read changes tells opened has = (script, book, read, changes, rw has.0 tells, opened, has.1, has.2, has.3)
+rounds-telling bytes script text book (Err untold) read changes tells opened has = rw has.0 has.1

@@ -6,11 +6,11 @@
 --     Refuses command bytes why callers      why a command can't have its text
 --     Ends asked input output outcome ending      what each ending means
 --     status_of ending, error_line ending      its status, and its line on standard error
-use Rattle.std.specs.Prelude.{◌≡◌, ◌⊎◌, ℕ, ◌+◌, ◌<◌, ◌≤◌, ◌++◌, List, [], ◌∷◌, length, map, Option, Some, None, Ok, Err, codes, decimal, sum_by}
+use Rattle.std.specs.Prelude.{◌≡◌, ◌⊎◌, All, ℕ, ◌+◌, ◌<◌, ◌≤◌, ◌++◌, List, [], ◌∷◌, length, map, Option, Some, None, Ok, Err, codes, decimal, sum_by}
 use Rattle.std.specs.Io.KnownBytes.{Consumes, Appends, IsAtEnd}
 use Rattle.edge_io.specs.Causes.{Rose}
 use Rattle.edge_io.specs.Whole.{AppendsPart}
-use Rattle.fn_core.specs.Calls.{CoreLog}
+use Rattle.fn_core.specs.Calls.{CoreLog, calls_in}
 use Rattle.fn_layout.specs.declared.shape.ShapeFault.{ShapeFault}
 use Rattle.fn_layout.specs.declared.shape.ShapeFault.TheVariants as shape
 use Rattle.quota_pool.specs.declared.moved.Moved.{Moved}
@@ -25,19 +25,20 @@ use Rattle.trace_text.specs.declared.traces.TraceFault.{TraceFault}
 use Rattle.trace_text.specs.declared.traces.TraceFault.TheVariants as trace
 use Rattle.replay_run.specs.Replay.{IsReplay, value_in}
 use Rattle.tq_queue.specs.Seen.{BookView}
+use Rattle.fn_rounds.specs.Script.{IsBookOf, IsChangeOrder, TellsRounds, other_order}
 use Rattle.relay_run.specs.Lines.{lines_of}
 use Rattle.relay_run.specs.Relay.{IsRelay, order_of, text_from}
 use Rattle.relay_run.specs.declared.lines.TheConstants.{MOST_LINES}
 use Rattle.replay_report.specs.Report.{report_text, summary_line, summary_text}
 use Rattle.tool_words.specs.declared.commands.Command.{Command}
-use Rattle.tool_words.specs.declared.commands.Command.TheVariants.{Play, Trial, Replay, Drill, Relay}
+use Rattle.tool_words.specs.declared.commands.Command.TheVariants.{Play, Trial, Replay, Drill, Relay, Rounds}
 use Rattle.funnel_tool.specs.Play.{play_text}
 use Rattle.funnel_tool.specs.Replies.{IsRunText}
 use Rattle.funnel_tool.specs.Trial.{IsHalted, TellsTrial}
 use Rattle.funnel_tool.specs.declared.ending.Ending.{Ending}
 use Rattle.funnel_tool.specs.declared.ending.Ending.TheVariants.{Done, Words, Refused, ReadFailed, WriteFailed, WriteStuck, NoMemory}
 use Rattle.funnel_tool.specs.declared.ending.Refusal.{Refusal}
-use Rattle.funnel_tool.specs.declared.ending.Refusal.TheVariants.{TooLong, ByScript, ByPlay, ByTrace, TooManyLines}
+use Rattle.funnel_tool.specs.declared.ending.Refusal.TheVariants.{TooLong, ByScript, ByPlay, ByTrace, TooManyLines, ByOrder}
 use Rattle.funnel_tool.specs.declared.ending.TheConstants.{INPUT_LIMIT}
 use Rattle.funnel_tool.specs.declared.play.PlayFault.{PlayFault}
 use Rattle.funnel_tool.specs.declared.play.PlayFault.TheVariants as play
@@ -124,7 +125,11 @@ abbrev pub HasRelayed : ℕ → ℕ → List (List ℕ) → List ℕ → List Mo
 HasRelayed workers capacity lines text answers books queue =
     (book : BookView ℕ) × IsRelay workers capacity (length lines) book × (text ≡ text_from 0 lines (order_of (length lines) book)) × (answers ≡ []) × (books ≡ []) × (queue ≡ Some book)
 
--- the text of a command, and what it hands back: the answers and books of a replay, the book of a trial, or the book of a relay's queue
+-- a script of additions and subtractions alone
+abbrev pub HasChanges : Script → Type 0
+HasChanges script = All (λ line. IsChangeOrder line.order) script.lines
+
+-- the text of a command, and what it hands back: the answers and books of a replay, the book of a trial or of calls in turns, or the book of a relay's queue
 abbrev pub Tells : Command → List ℕ → List ℕ → List Moved → List CoreLog → Option (BookView ℕ) → Type 0
 Tells Play bytes text answers books queue = (s : Script) × (script_of bytes ≡ Ok (content s)) × IsRunText s text × (answers ≡ []) × (books ≡ []) × (queue ≡ None)
 Tells Trial bytes text answers books queue = (s : Script) × (book : CoreLog) × (script_of bytes ≡ Ok (content s)) × TellsTrial s text book × (answers ≡ []) × (books ≡ book ∷ []) × (queue ≡ None)
@@ -132,6 +137,8 @@ Tells (Replay workers) bytes text answers books queue =
     (t : Content) × (trace_of workers bytes ≡ Ok t) × IsReport workers t text answers books × (queue ≡ None)
 Tells (Drill seed rows workers) bytes text answers books queue = IsSummary workers (drill seed rows workers) text answers books × (text ≡ drill_line seed rows workers) × (queue ≡ None)
 Tells (Relay workers capacity) bytes text answers books queue = (length (lines_of bytes) ≤ MOST_LINES) × HasRelayed workers capacity (lines_of bytes) text answers books queue
+Tells Rounds bytes text answers books queue =
+    (s : Script) × (book : CoreLog) × (script_of bytes ≡ Ok (content s)) × HasChanges s × TellsRounds s text (calls_in book) × IsBookOf s book × (answers ≡ []) × (books ≡ book ∷ []) × (queue ≡ None)
 
 -- why bytes are no script, or one that can't be done
 abbrev pub RefusesScript : List ℕ → Refusal → (Script → PlayFault → Type 0) → List Caller → Type 0
@@ -149,6 +156,12 @@ abbrev pub RefusesLines : List ℕ → Refusal → List Caller → Type 0
 RefusesLines bytes (TooManyLines at) callers = (MOST_LINES < length (lines_of bytes)) × (at ≡ MOST_LINES + 1) × (callers ≡ [])
 RefusesLines bytes _ callers = ⊥
 
+-- why bytes are no script of additions and subtractions: the first line with another order is told
+abbrev pub RefusesOrders : List ℕ → Refusal → List Caller → Type 0
+RefusesOrders bytes (ByScript fault) callers = (script_of bytes ≡ Err fault) × (callers ≡ [])
+RefusesOrders bytes (ByOrder at) callers = (s : Script) × (script_of bytes ≡ Ok (content s)) × (other_order s.lines ≡ Some at) × (callers ≡ [])
+RefusesOrders bytes _ callers = ⊥
+
 -- why a command can't have its text, and the callers that it hands back: those of the table on which a line of a script can't be done
 abbrev pub Refuses : Command → List ℕ → Refusal → List Caller → Type 0
 Refuses Play bytes why callers = RefusesScript bytes why (λ s fault. (play_text s ≡ Err fault) × (callers ≡ [])) callers
@@ -156,6 +169,7 @@ Refuses Trial bytes why callers = RefusesScript bytes why (λ s fault. IsHalted 
 Refuses (Replay workers) bytes why callers = RefusesTrace workers bytes why callers
 Refuses (Drill seed rows workers) bytes why callers = ⊥
 Refuses (Relay workers capacity) bytes why callers = RefusesLines bytes why callers
+Refuses Rounds bytes why callers = RefusesOrders bytes why callers
 
 -- a command that refuses its input has read it, but for input that is too long to its end
 abbrev pub IsRefused : Command → Input → Refusal → List Caller → Type 0
@@ -188,13 +202,14 @@ Ends asked input output outcome WriteFailed = HasText asked input output outcome
 Ends asked input output outcome WriteStuck = HasText asked input output outcome WriteStuck
 Ends asked input output outcome ending = HasNoText asked input output outcome ending
 
--- bytes in which a command finds no fault: a script that plays to an end, a script, a trace, or lines
+-- bytes in which a command finds no fault: a script that plays to an end, a script, a trace, lines, or a script of additions and subtractions
 abbrev pub IsAccepted : Command → List ℕ → Type 0
 IsAccepted Play bytes = (s : Script) × (text : List ℕ) × (script_of bytes ≡ Ok (content s)) × (play_text s ≡ Ok text)
 IsAccepted Trial bytes = (s : Script) × (script_of bytes ≡ Ok (content s))
 IsAccepted (Replay workers) bytes = (t : Content) × (trace_of workers bytes ≡ Ok t)
 IsAccepted (Drill seed rows workers) bytes = Unit {0}
 IsAccepted (Relay workers capacity) bytes = length (lines_of bytes) ≤ MOST_LINES
+IsAccepted Rounds bytes = (s : Script) × (script_of bytes ≡ Ok (content s)) × HasChanges s
 
 -- a command finds no fault in what a source has left
 abbrev pub Accepts : Command → Option (List ℕ) → Type 0
@@ -268,11 +283,12 @@ refusal_text (ByScript fault) = script_text fault
 refusal_text (ByTrace fault) = trace_text fault
 refusal_text (TooManyLines at) = codes "too many at " ++ decimal at
 refusal_text (ByPlay fault) = play_fault_text fault
+refusal_text (ByOrder at) = codes "op at " ++ decimal at
 
 -- the line of an ending on standard error
 abbrev pub error_line : Ending → List ℕ
 error_line Done = []
-error_line Words = codes "usage: funnel_tool play | trial | replay WORKERS | drill SEED ROWS WORKERS | relay WORKERS CAPACITY\n"
+error_line Words = codes "usage: funnel_tool play | trial | replay WORKERS | drill SEED ROWS WORKERS | relay WORKERS CAPACITY | rounds\n"
 error_line (Refused why) = codes "refused: " ++ refusal_text why ++ codes "\n"
 error_line ReadFailed = codes "read failed\n"
 error_line WriteFailed = codes "write failed\n"

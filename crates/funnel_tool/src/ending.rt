@@ -18,6 +18,8 @@ pub enum Refusal {
     ByPlay(PlayFault),
     ByTrace(TraceFault),
     TooManyLines { at: u64 },
+    /// an order that isn't an addition or a subtraction
+    ByOrder { at: u64 },
 }
 
 /// How a run ends.
@@ -65,7 +67,7 @@ impl Ending {
 }
 
 static USAGE: &[u8] =
-    b"usage: funnel_tool play | trial | replay WORKERS | drill SEED ROWS WORKERS | relay WORKERS CAPACITY\n";
+    b"usage: funnel_tool play | trial | replay WORKERS | drill SEED ROWS WORKERS | relay WORKERS CAPACITY | rounds\n";
 
 const ROOM: usize = 160;
 
@@ -174,6 +176,7 @@ fn push_refusal(line: &mut ErrorLine, why: Refusal)
         Refusal::ByPlay(fault) => push_play_fault(line, fault),
         Refusal::ByTrace(fault) => push_trace_fault(line, fault),
         Refusal::TooManyLines { at } => line.push_counted(b"too many at ", at),
+        Refusal::ByOrder { at } => line.push_counted(b"op at ", at),
     }
 }
 

@@ -8,14 +8,17 @@ ghost use Rattle.funnel_tool.specs.Outcome.{Ends, IsComplete, Writes, error_line
 ghost use Rattle.funnel_tool.specs.Telling.{Finishes, HasRead, IsPrepared};
 
 use crate::ending::{Ending, INPUT_LIMIT, Refusal};
-use crate::telling::{Told, Untold, tell_drill, tell_play, tell_relay, tell_replay, tell_trial};
+use crate::telling::{
+    Told, Untold, tell_drill, tell_play, tell_relay, tell_replay, tell_rounds, tell_trial,
+};
 use crate::trial::Caller;
 use edge_io::{ReadFault, Sink, Source, WriteFault, read_all, write_all};
 use fn_table::Book;
 use quota_pool::Moved;
 use relay_run::QueueBook;
 use replay_run::Gate;
-use std::alloc::Global;
+use std::alloc::{AllocGlobal, Global};
+use std::random::RandomSource;
 use std::sync::Wait;
 use std::thread::Threads;
 use tool_words::{Command, read_command};
@@ -56,7 +59,13 @@ pub fn run_play<S: Source, K: Sink, E: Sink>(
 }
 
 /// Reads words and input, does what they ask for, and writes its text, and a line to `err` where that didn't go well. It waits for the workers of a replay or of a relay, who ask the gate before and after each row or line.
-pub fn run<R: Threads + Wait + Sync, S: Source, K: Sink, E: Sink, G: Gate + Sync>(
+pub fn run<
+    R: Threads + Wait + Sync + RandomSource + AllocGlobal,
+    S: Source,
+    K: Sink,
+    E: Sink,
+    G: Gate + Sync,
+>(
     rt: &R,
     alloc: Global,
     words: &[String],
@@ -95,7 +104,7 @@ fn prepare_script<S: Source>(
 }
 
 // The text of what the words ask for.
-fn prepare<R: Threads + Wait + Sync, S: Source, G: Gate + Sync>(
+fn prepare<R: Threads + Wait + Sync + RandomSource + AllocGlobal, S: Source, G: Gate + Sync>(
     rt: &R,
     alloc: Global,
     words: &[String],
@@ -120,14 +129,13 @@ fn tell_script<S: Source>(alloc: Global, command: Command, source: &mut S) -> Re
     match command {
         Command::Play => tell_play(alloc, &read_input(alloc, source)?),
         Command::Trial => tell_trial(alloc, &read_input(alloc, source)?),
-        Command::Replay { .. } | Command::Drill { .. } | Command::Relay { .. } => {
-            Err(Untold::new(alloc, Ending::Words))
-        }
+        Command::Replay { .. } | Command::Drill { .. } | Command::Relay { .. } | Command::Rounds =>
+            Err(Untold::new(alloc, Ending::Words)),
     }
 }
 
 // The text of a command.
-fn tell_command<R: Threads + Wait + Sync, S: Source, G: Gate + Sync>(
+fn tell_command<R: Threads + Wait + Sync + RandomSource + AllocGlobal, S: Source, G: Gate + Sync>(
     rt: &R,
     alloc: Global,
     command: Command,
@@ -158,6 +166,7 @@ fn tell_command<R: Threads + Wait + Sync, S: Source, G: Gate + Sync>(
                 gate,
             )
         }
+        Command::Rounds => tell_rounds(rt, alloc, &read_input(alloc, source)?),
     }
 }
 

@@ -12,12 +12,14 @@ ghost use Rattle.funnel_tool.specs.Telling.{HasBook, HasScript, IsTelling};
 use crate::ending::{Ending, Refusal};
 use crate::play::{PlayFault, play_script};
 use crate::trial::{Caller, trial_script};
+use fn_rounds::{other_order, rounds_text};
 use fn_table::Book;
 use quota_pool::Moved;
 use relay_run::{Lines, LinesFault, QueueBook, Relayed, relay, relay_text, split_lines};
 use replay_report::{report_text, summary_text};
 use replay_run::{Gate, Replayed, replay};
-use std::alloc::{AllocError, Global};
+use std::alloc::{AllocError, AllocGlobal, Global};
+use std::random::RandomSource;
 use std::sync::Wait;
 use std::thread::Threads;
 use trace_text::{
@@ -255,6 +257,24 @@ fn relay_lines<R: Threads + Wait + Sync, G: Gate + Sync>(
         books: Vec::new(alloc),
         queue: Some(book),
     })
+}
+
+/// Makes the additions and subtractions of a script in turns.
+pub fn tell_rounds<R: Wait + RandomSource + AllocGlobal>(
+    rt: &R,
+    alloc: Global,
+    bytes: &[u8],
+) -> Result<Told, Untold>
+    ensures { IsTelling command.Rounds bytes.now result }
+{
+    let script = script_in(alloc, bytes)?;
+    match other_order(&script) {
+        Some(at) => Err(Untold::new(alloc, Ending::Refused(Refusal::ByOrder { at }))),
+        None => match rounds_text(rt, alloc, &script) {
+            Ok((text, book)) => tell_book(alloc, text, book),
+            Err(_) => Err(Untold::new(alloc, Ending::NoMemory)),
+        },
+    }
 }
 
 // The values of some books.

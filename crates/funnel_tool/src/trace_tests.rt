@@ -25,7 +25,7 @@ const DISK: &str = "0,open,disk,10\n0,take,disk,4\n0,take,disk,9\n0,add,disk,3\n
 const LINES: &str = "row,2,10,4\nrow,3,6,6\nrow,4,0,3\nrow,5,3,0\ntotal,disk,10,3,10,3\n";
 
 const USAGE: &str =
-    "usage: funnel_tool play | trial | replay WORKERS | drill SEED ROWS WORKERS | relay WORKERS CAPACITY\n";
+    "usage: funnel_tool play | trial | replay WORKERS | drill SEED ROWS WORKERS | relay WORKERS CAPACITY | rounds\n";
 
 static ROWS: [Row; 45] = [
     // a take meets less than its amount

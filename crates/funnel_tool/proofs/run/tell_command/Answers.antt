@@ -1,5 +1,5 @@
 use Rattle.std.proofs.Common.{Some, refl, ap, []}
-use Rattle.tool_words.specs.declared.commands.Command.TheVariants.{Replay, Drill, Relay}
+use Rattle.tool_words.specs.declared.commands.Command.TheVariants.{Replay, Drill, Relay, Rounds}
 use Rattle.funnel_tool.specs.Outcome.{reading}
 use Rattle.funnel_tool.proofs.Preparing.{telling-prepared}
 use Rattle.funnel_tool.proofs.run.tell_command.Goals as goal
@@ -18,3 +18,8 @@ pub returns-in_ok-read_input-in-Relay-clause-prepared : goal.returns-in_ok-read_
 returns-in_ok-read_input-in-Relay-clause-prepared g c =
     telling-prepared (Relay c.in-Relay.workers c.in-Relay.capacity) (Some c.args.command) (reading (g.S.Source.left c.args.source.now) (g.S.Source.left c.read_input-in-Relay.new.source) (g.S.Source.faults c.args.source.now) (g.S.Source.faults c.read_input-in-Relay.new.source))
     c.deref-in-Relay.result.now c.tell_relay.result (ap Some c.in-Relay.is) (rw c.deref-in-Relay.ensures.value c.in_ok-read_input-in-Relay.ensures.read) c.tell_relay.ensures
+
+pub returns-in_ok-read_input-in-Rounds-clause-prepared : goal.returns-in_ok-read_input-in-Rounds-clause-prepared
+returns-in_ok-read_input-in-Rounds-clause-prepared g c =
+    telling-prepared Rounds (Some c.args.command) (reading (g.S.Source.left c.args.source.now) (g.S.Source.left c.read_input-in-Rounds.new.source) (g.S.Source.faults c.args.source.now) (g.S.Source.faults c.read_input-in-Rounds.new.source))
+    c.deref-in-Rounds.result.now c.tell_rounds.result (ap Some c.in-Rounds.is) (rw c.deref-in-Rounds.ensures.value c.in_ok-read_input-in-Rounds.ensures.read) c.tell_rounds.ensures
