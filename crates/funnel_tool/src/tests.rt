@@ -1,7 +1,9 @@
 //! Whole runs on fakes of the streams.
 use super::*;
-use crate::run::run_play;
+use crate::run::{Outcome, run_play};
 use edge_io::{MemSink, MemSource};
+use quota_pool::Moved;
+use std::alloc::Global;
 use std::test::Fail;
 
 #[derive(Clone, Copy)]
@@ -559,10 +561,6 @@ pub(crate) static ROWS: [Row; 60] = [
     },
 ];
 
-fn play_words(rt: &HostRuntime) -> Result<Vec<String>, Fail> {
-    words_of(rt, "play")
-}
-
 // The words of a line.
 pub(crate) fn words_of(rt: &HostRuntime, line: &str) -> Result<Vec<String>, Fail> {
     let mut words = Vec::new(rt.alloc());
@@ -580,26 +578,66 @@ pub(crate) fn input_of(rt: &HostRuntime, row: Row) -> Result<Vec<u8>, Fail> {
     Ok(input)
 }
 
-// Runs a script by a command: the status, and what was written.
-fn ran(rt: &HostRuntime, command: &str, row: Row) -> Result<(u8, Vec<u8>, Vec<u8>), Fail> {
-    let words = words_of(rt, command)?;
-    let input = input_of(rt, row)?;
-    let mut source = MemSource::new(rt.alloc(), &input, 4096, &[])?;
-    let mut out = MemSink::new(rt.alloc(), 1000, 100, &[])?;
-    let mut err = MemSink::new(rt.alloc(), 1000, 100, &[])?;
+/// What a run came to: its status, what was written, and its answers.
+#[derive(Drop)]
+pub(crate) struct Ran {
+    pub(crate) status: u8,
+    pub(crate) text: Vec<u8>,
+    pub(crate) line: Vec<u8>,
+    pub(crate) answers: Vec<Moved>,
+}
+
+impl Ran {
+    pub(crate) fn of(
+        alloc: Global,
+        outcome: Outcome,
+        out: &MemSink,
+        err: &MemSink,
+    ) -> Result<Ran, Fail> {
+        Ok(Ran {
+            status: outcome.status,
+            text: Vec::from_slice(alloc, out.held())?,
+            line: Vec::from_slice(alloc, err.held())?,
+            answers: outcome.answers,
+        })
+    }
+
+    pub(crate) fn is(&self, status: u8, text: &[u8], line: &[u8]) -> bool {
+        self.status == status && self.text.as_slice() == text && self.line.as_slice() == line
+    }
+}
+
+// Runs a command on scripts.
+fn run_script(
+    rt: &HostRuntime,
+    line: &str,
+    mut source: MemSource,
+    mut out: MemSink,
+    mut err: MemSink,
+) -> Result<Ran, Fail> {
+    let words = words_of(rt, line)?;
     let outcome = run_play(rt.alloc(), &words, &mut source, &mut out, &mut err);
-    let text = Vec::from_slice(rt.alloc(), out.held())?;
-    let line = Vec::from_slice(rt.alloc(), err.held())?;
-    Ok((outcome.status, text, line))
+    Ran::of(rt.alloc(), outcome, &out, &err)
+}
+
+// Runs a command on a row's script.
+fn run_row(rt: &HostRuntime, line: &str, row: Row) -> Result<Ran, Fail> {
+    let input = input_of(rt, row)?;
+    let source = MemSource::new(rt.alloc(), &input, 4096, &[])?;
+    let out = MemSink::new(rt.alloc(), 1000, 100, &[])?;
+    let err = MemSink::new(rt.alloc(), 1000, 100, &[])?;
+    run_script(rt, line, source, out, err)
 }
 
 #[test]
 fn scripts_give_their_texts_or_faults(rt: HostRuntime) -> Result<(), Fail> {
     for row in &ROWS {
-        let (status, text, line) = ran(&rt, "play", *row)?;
-        assert_eq!(rt; status, row.status);
-        assert_eq!(rt; text.as_slice(), row.stdout.as_bytes());
-        assert_eq!(rt; line.as_slice(), row.stderr.as_bytes());
+        let ran = run_row(&rt, "play", *row)?;
+        assert!(rt;
+            ran.is(row.status, row.stdout.as_bytes(), row.stderr.as_bytes()),
+            "{}",
+            row.input
+        );
     }
     Ok(())
 }
@@ -607,10 +645,12 @@ fn scripts_give_their_texts_or_faults(rt: HostRuntime) -> Result<(), Fail> {
 #[test]
 fn the_table_gives_the_same(rt: HostRuntime) -> Result<(), Fail> {
     for row in &ROWS {
-        let (status, text, line) = ran(&rt, "trial", *row)?;
-        assert_eq!(rt; status, row.status);
-        assert_eq!(rt; text.as_slice(), row.stdout.as_bytes());
-        assert_eq!(rt; line.as_slice(), row.stderr.as_bytes());
+        let ran = run_row(&rt, "trial", *row)?;
+        assert!(rt;
+            ran.is(row.status, row.stdout.as_bytes(), row.stderr.as_bytes()),
+            "{}",
+            row.input
+        );
     }
     Ok(())
 }
@@ -621,32 +661,27 @@ static TEXT: &str = "waits\nwaits\nreply 6\nreply 2\nvalue 0\n";
 
 #[test]
 fn a_failed_read_writes_nothing(rt: HostRuntime) -> Result<(), Fail> {
-    let words = play_words(&rt)?;
     for read in 0..6 {
-        let mut source = MemSource::new(rt.alloc(), SCRIPT.as_bytes(), 10, &[read])?;
-        let mut out = MemSink::new(rt.alloc(), 1000, 10, &[])?;
-        let mut err = MemSink::new(rt.alloc(), 1000, 5, &[])?;
-        let outcome = run_play(rt.alloc(), &words, &mut source, &mut out, &mut err);
-        assert_eq!(rt; outcome.status, 4);
-        assert_eq!(rt; out.held().len(), 0);
-        assert_eq!(rt; err.held(), b"read failed\n".as_slice());
+        let source = MemSource::new(rt.alloc(), SCRIPT.as_bytes(), 10, &[read])?;
+        let out = MemSink::new(rt.alloc(), 1000, 10, &[])?;
+        let err = MemSink::new(rt.alloc(), 1000, 5, &[])?;
+        let ran = run_script(&rt, "play", source, out, err)?;
+        assert!(rt; ran.is(4, b"", b"read failed\n"));
     }
     Ok(())
 }
 
 #[test]
 fn a_failed_write_leaves_a_front(rt: HostRuntime) -> Result<(), Fail> {
-    let words = play_words(&rt)?;
     let mut whole = 0;
     for write in 0..4 {
-        let mut source = MemSource::new(rt.alloc(), SCRIPT.as_bytes(), 7, &[])?;
-        let mut out = MemSink::new(rt.alloc(), 1000, 10, &[write])?;
-        let mut err = MemSink::new(rt.alloc(), 1000, 100, &[])?;
-        let outcome = run_play(rt.alloc(), &words, &mut source, &mut out, &mut err);
-        assert_eq!(rt; outcome.status, 5);
-        assert_eq!(rt; out.held().len(), whole);
-        assert!(rt; TEXT.as_bytes().starts_with(out.held()));
-        assert_eq!(rt; err.held(), b"write failed\n".as_slice());
+        let source = MemSource::new(rt.alloc(), SCRIPT.as_bytes(), 7, &[])?;
+        let out = MemSink::new(rt.alloc(), 1000, 10, &[write])?;
+        let err = MemSink::new(rt.alloc(), 1000, 100, &[])?;
+        let ran = run_script(&rt, "play", source, out, err)?;
+        assert_eq!(rt; ran.text.len(), whole);
+        assert!(rt; TEXT.as_bytes().starts_with(&ran.text));
+        assert!(rt; ran.is(5, &ran.text, b"write failed\n"));
         whole += 10;
     }
     Ok(())
@@ -654,34 +689,29 @@ fn a_failed_write_leaves_a_front(rt: HostRuntime) -> Result<(), Fail> {
 
 #[test]
 fn a_sink_that_takes_nothing_is_told_apart(rt: HostRuntime) -> Result<(), Fail> {
-    let words = play_words(&rt)?;
-    let mut source = MemSource::new(rt.alloc(), SCRIPT.as_bytes(), 7, &[])?;
-    let mut out = MemSink::new(rt.alloc(), 1000, 0, &[])?;
-    let mut err = MemSink::new(rt.alloc(), 1000, 100, &[])?;
-    let outcome = run_play(rt.alloc(), &words, &mut source, &mut out, &mut err);
-    assert_eq!(rt; outcome.status, 5);
-    assert_eq!(rt; err.held(), b"write stuck\n".as_slice());
+    let source = MemSource::new(rt.alloc(), SCRIPT.as_bytes(), 7, &[])?;
+    let out = MemSink::new(rt.alloc(), 1000, 0, &[])?;
+    let err = MemSink::new(rt.alloc(), 1000, 100, &[])?;
+    let ran = run_script(&rt, "play", source, out, err)?;
+    assert!(rt; ran.is(5, b"", b"write stuck\n"));
     Ok(())
 }
 
 #[test]
 fn a_failed_line_leaves_the_status(rt: HostRuntime) -> Result<(), Fail> {
-    let words = play_words(&rt)?;
-    let mut source = MemSource::new(rt.alloc(), b"funnel", 7, &[])?;
-    let mut out = MemSink::new(rt.alloc(), 1000, 10, &[])?;
-    let mut err = MemSink::new(rt.alloc(), 1000, 9, &[1])?;
-    let outcome = run_play(rt.alloc(), &words, &mut source, &mut out, &mut err);
-    assert_eq!(rt; outcome.status, 3);
-    assert_eq!(rt; err.held(), b"refused: ".as_slice());
+    let source = MemSource::new(rt.alloc(), b"funnel", 7, &[])?;
+    let out = MemSink::new(rt.alloc(), 1000, 10, &[])?;
+    let err = MemSink::new(rt.alloc(), 1000, 9, &[1])?;
+    let ran = run_script(&rt, "play", source, out, err)?;
+    assert!(rt; ran.is(3, b"", b"refused: "));
     Ok(())
 }
 
 fn status_of_words(rt: &HostRuntime, line: &str) -> Result<u8, Fail> {
-    let words = words_of(rt, line)?;
-    let mut source = MemSource::new(rt.alloc(), SCRIPT.as_bytes(), 7, &[])?;
-    let mut out = MemSink::new(rt.alloc(), 1000, 10, &[])?;
-    let mut err = MemSink::new(rt.alloc(), 1000, 100, &[])?;
-    Ok(run_play(rt.alloc(), &words, &mut source, &mut out, &mut err).status)
+    let source = MemSource::new(rt.alloc(), SCRIPT.as_bytes(), 7, &[])?;
+    let out = MemSink::new(rt.alloc(), 1000, 10, &[])?;
+    let err = MemSink::new(rt.alloc(), 1000, 100, &[])?;
+    Ok(run_script(rt, line, source, out, err)?.status)
 }
 
 #[test]

@@ -1,10 +1,15 @@
 //! Whole runs of traces and of lines on fakes of the streams.
 use crate::run::run;
-use crate::tests::words_of;
+use crate::tests::{Ran, words_of};
 use edge_io::{MemSink, MemSource};
+use quota_pool::Moved;
 use replay_run::{Gate, OpenGate};
+use std::alloc::{AllocGlobal, Global};
+use std::random::RandomSource;
+use std::sync::Wait;
 use std::sync::atomic::{AtomicBool, Ordering};
 use std::test::Fail;
+use std::thread::Threads;
 
 #[derive(Clone, Copy)]
 struct Row {
@@ -27,7 +32,7 @@ const LINES: &str = "row,2,10,4\nrow,3,6,6\nrow,4,0,3\nrow,5,3,0\ntotal,disk,10,
 const USAGE: &str =
     "usage: funnel_tool play | trial | replay WORKERS | drill SEED ROWS WORKERS | relay WORKERS CAPACITY | rounds\n";
 
-static ROWS: [Row; 45] = [
+static ROWS: [Row; 52] = [
     // a take meets less than its amount
     Row {
         line: "replay 1",
@@ -401,6 +406,65 @@ static ROWS: [Row; 45] = [
         stderr: USAGE,
         status: 2,
     },
+    // calls in turns
+    Row {
+        line: "rounds",
+        first: "funnel 2 1 1 2 10\n",
+        records: "0 add 5\n1 add 7\n0 sub 30\n",
+        stdout: "reply 2 10\nreply 3 15\nreply 4 22\nvalue 0\n",
+        stderr: "",
+        status: 0,
+    },
+    Row {
+        line: "rounds",
+        first: "funnel 3 1 1 2 6\n",
+        records: "0 sub 4\n1 sub 4\n2 sub 4\n0 add 10\n1 sub 3\n",
+        stdout: "reply 2 6\nreply 3 2\nreply 4 0\nreply 5 0\nreply 6 10\nvalue 7\n",
+        stderr: "",
+        status: 0,
+    },
+    Row {
+        line: "rounds",
+        first: "funnel 1 1 1 1 4\n",
+        records: "",
+        stdout: "value 4\n",
+        stderr: "",
+        status: 0,
+    },
+    // another order
+    Row {
+        line: "rounds",
+        first: "funnel 1 1 1 1 4\n",
+        records: "0 read\n",
+        stdout: "",
+        stderr: "refused: op at 2\n",
+        status: 3,
+    },
+    Row {
+        line: "rounds",
+        first: "funnel 2 1 1 1 4\n",
+        records: "1 add 1\n0 read\n1 poll\n",
+        stdout: "",
+        stderr: "refused: op at 3\n",
+        status: 3,
+    },
+    // no script
+    Row {
+        line: "rounds",
+        first: PLAIN,
+        records: DISK,
+        stdout: "",
+        stderr: "refused: header at 1\n",
+        status: 3,
+    },
+    Row {
+        line: "rounds x",
+        first: "funnel 1 1 1 1 4\n",
+        records: "",
+        stdout: "",
+        stderr: USAGE,
+        status: 2,
+    },
 ];
 
 // The bytes of a trace.
@@ -410,26 +474,33 @@ fn trace_of(rt: &HostRuntime, first: &str, records: &str) -> Result<Vec<u8>, Fai
     Ok(bytes)
 }
 
+// Runs a command.
+fn run_words<R: Threads + Wait + Sync + RandomSource + AllocGlobal, G: Gate + Sync>(
+    rt: &R,
+    words: &[String],
+    mut source: MemSource,
+    mut out: MemSink,
+    gate: &G,
+) -> Result<Ran, Fail> {
+    let alloc = rt.alloc();
+    let mut err = MemSink::new(alloc, 1000, 100, &[])?;
+    let outcome = run(rt, alloc, words, &mut source, &mut out, &mut err, gate);
+    Ran::of(alloc, outcome, &out, &err)
+}
+
 #[test]
 fn traces_give_their_reports_or_faults(rt: HostRuntime) -> Result<(), Fail> {
     for row in &ROWS {
         let words = words_of(&rt, row.line)?;
         let bytes = trace_of(&rt, row.first, row.records)?;
-        let mut source = MemSource::new(rt.alloc(), &bytes, 100, &[])?;
-        let mut out = MemSink::new(rt.alloc(), 1000, 100, &[])?;
-        let mut err = MemSink::new(rt.alloc(), 1000, 100, &[])?;
-        let outcome = run(
-            &rt,
-            rt.alloc(),
-            &words,
-            &mut source,
-            &mut out,
-            &mut err,
-            &OpenGate,
+        let source = MemSource::new(rt.alloc(), &bytes, 100, &[])?;
+        let out = MemSink::new(rt.alloc(), 1000, 100, &[])?;
+        let ran = run_words(&rt, &words, source, out, &OpenGate)?;
+        assert!(rt;
+            ran.is(row.status, row.stdout.as_bytes(), row.stderr.as_bytes()),
+            "{}",
+            row.records
         );
-        assert_eq!(rt; outcome.status, row.status);
-        assert_eq!(rt; out.held(), row.stdout.as_bytes());
-        assert_eq!(rt; err.held(), row.stderr.as_bytes());
     }
     Ok(())
 }
@@ -439,27 +510,18 @@ fn each_write_may_fail(rt: HostRuntime) -> Result<(), Fail> {
     let words = words_of(&rt, "replay 1")?;
     let bytes = trace_of(&rt, PLAIN, DISK)?;
     for write in 0..8 {
-        let mut source = MemSource::new(rt.alloc(), &bytes, 100, &[])?;
-        let mut out = MemSink::new(rt.alloc(), 1000, 10, &[write])?;
-        let mut err = MemSink::new(rt.alloc(), 1000, 100, &[])?;
-        let outcome = run(
-            &rt,
-            rt.alloc(),
-            &words,
-            &mut source,
-            &mut out,
-            &mut err,
-            &OpenGate,
-        );
+        let source = MemSource::new(rt.alloc(), &bytes, 100, &[])?;
+        let out = MemSink::new(rt.alloc(), 1000, 10, &[write])?;
+        let ran = run_words(&rt, &words, source, out, &OpenGate)?;
         let (status, held, line) = if write < 7 {
             (5, write * 10, "write failed\n")
         } else {
             (0, 62, "")
         };
-        assert_eq!(rt; outcome.status, status);
-        assert_eq!(rt; out.held().len() as u64, held);
-        assert!(rt; LINES.as_bytes().starts_with(out.held()));
-        assert_eq!(rt; err.held(), line.as_bytes());
+        assert_eq!(rt; ran.status, status);
+        assert_eq!(rt; ran.text.len() as u64, held);
+        assert!(rt; LINES.as_bytes().starts_with(&ran.text));
+        assert_eq!(rt; ran.line.as_slice(), line.as_bytes());
     }
     Ok(())
 }
@@ -470,25 +532,16 @@ fn each_read_may_fail(rt: HostRuntime) -> Result<(), Fail> {
     let bytes = trace_of(&rt, PLAIN, DISK)?;
     let mut all_read = false;
     for read in 0..12 {
-        let mut source = MemSource::new(rt.alloc(), &bytes, 16, &[read])?;
-        let mut out = MemSink::new(rt.alloc(), 1000, 100, &[])?;
-        let mut err = MemSink::new(rt.alloc(), 1000, 100, &[])?;
-        let outcome = run(
-            &rt,
-            rt.alloc(),
-            &words,
-            &mut source,
-            &mut out,
-            &mut err,
-            &OpenGate,
-        );
-        if outcome.status == 0 {
+        let source = MemSource::new(rt.alloc(), &bytes, 16, &[read])?;
+        let out = MemSink::new(rt.alloc(), 1000, 100, &[])?;
+        let ran = run_words(&rt, &words, source, out, &OpenGate)?;
+        if ran.status == 0 {
             all_read = true;
         } else {
             assert!(rt; !all_read);
-            assert_eq!(rt; outcome.status, 4);
-            assert_eq!(rt; out.held().len(), 0);
-            assert_eq!(rt; err.held(), b"read failed\n".as_slice());
+            assert_eq!(rt; ran.status, 4);
+            assert_eq!(rt; ran.text.len(), 0);
+            assert_eq!(rt; ran.line.as_slice(), b"read failed\n".as_slice());
         }
     }
     assert!(rt; all_read);
@@ -503,34 +556,28 @@ fn push_rounds(bytes: &mut Vec<u8>, rounds: u32) -> Result<(), Fail> {
     Ok(())
 }
 
+// What answers met, in rising order.
+fn befores_of(alloc: Global, answers: &[Moved]) -> Result<Vec<u64>, Fail> {
+    let mut befores = Vec::new(alloc);
+    for answer in answers {
+        befores.push(answer.before)?;
+    }
+    befores.sort()?;
+    Ok(befores)
+}
+
 #[test]
 fn four_workers_add_up(rt: HostRuntime) -> Result<(), Fail> {
     let words = words_of(&rt, "replay 4")?;
     let mut bytes = trace_of(&rt, PLAIN, "0,open,d,0\n")?;
     push_rounds(&mut bytes, 1000)?;
-    let mut source = MemSource::new(rt.alloc(), &bytes, 4096, &[])?;
-    let mut out = MemSink::new(rt.alloc(), 1_000_000, 1_000_000, &[])?;
-    let mut err = MemSink::new(rt.alloc(), 1000, 100, &[])?;
-    let outcome = run(
-        &rt,
-        rt.alloc(),
-        &words,
-        &mut source,
-        &mut out,
-        &mut err,
-        &OpenGate,
-    );
-    assert_eq!(rt; outcome.status, 0);
-    assert!(rt;
-        out.held()
-            .ends_with(b"\ntotal,d,0,4000,0,4000\n".as_slice())
-    );
-    let mut befores = Vec::new(rt.alloc());
-    for answer in &outcome.answers {
-        assert_eq!(rt; answer.moved, 1);
-        befores.push(answer.before)?;
-    }
-    befores.sort()?;
+    let source = MemSource::new(rt.alloc(), &bytes, 4096, &[])?;
+    let out = MemSink::new(rt.alloc(), 1_000_000, 1_000_000, &[])?;
+    let ran = run_words(&rt, &words, source, out, &OpenGate)?;
+    assert_eq!(rt; ran.status, 0);
+    assert!(rt; ran.text.ends_with(b"\ntotal,d,0,4000,0,4000\n".as_slice()));
+    assert!(rt; ran.answers.iter().all(|answer| answer.moved == 1));
+    let befores = befores_of(rt.alloc(), &ran.answers)?;
     assert_eq!(rt; befores.len(), 4000);
     for (i, before) in befores.iter().enumerate() {
         assert_eq!(rt; *before, i as u64);
@@ -594,22 +641,13 @@ fn workers_run_beside_each_other(rt: HostRuntime) -> Result<(), Fail> {
     let words = words_of(&rt, "replay 2")?;
     let bytes = trace_of(&rt, PLAIN, "0,open,t,0\n0,add,t,1\n1,add,t,2\n")?;
     let gate = Crossing::new();
-    let mut source = MemSource::new(rt.alloc(), &bytes, 100, &[])?;
-    let mut out = MemSink::new(rt.alloc(), 1000, 100, &[])?;
-    let mut err = MemSink::new(rt.alloc(), 1000, 100, &[])?;
-    let outcome = run(
-        &rt,
-        rt.alloc(),
-        &words,
-        &mut source,
-        &mut out,
-        &mut err,
-        &gate,
-    );
-    assert_eq!(rt; outcome.status, 0);
+    let source = MemSource::new(rt.alloc(), &bytes, 100, &[])?;
+    let out = MemSink::new(rt.alloc(), 1000, 100, &[])?;
+    let ran = run_words(&rt, &words, source, out, &gate)?;
+    assert_eq!(rt; ran.status, 0);
     assert!(rt; !gate.gave_up.load(Ordering::SeqCst));
     assert_eq!(rt;
-        out.held(),
+        ran.text.as_slice(),
         b"row,2,2,1\nrow,3,0,2\ntotal,t,0,3,0,3\n".as_slice()
     );
     Ok(())
@@ -619,21 +657,12 @@ fn workers_run_beside_each_other(rt: HostRuntime) -> Result<(), Fail> {
 fn lines_cross(rt: HostRuntime) -> Result<(), Fail> {
     let words = words_of(&rt, "relay 2 2")?;
     let gate = Crossing::new();
-    let mut source = MemSource::new(rt.alloc(), b"a\nb\n", 100, &[])?;
-    let mut out = MemSink::new(rt.alloc(), 1000, 100, &[])?;
-    let mut err = MemSink::new(rt.alloc(), 1000, 100, &[])?;
-    let outcome = run(
-        &rt,
-        rt.alloc(),
-        &words,
-        &mut source,
-        &mut out,
-        &mut err,
-        &gate,
-    );
-    assert_eq!(rt; outcome.status, 0);
+    let source = MemSource::new(rt.alloc(), b"a\nb\n", 100, &[])?;
+    let out = MemSink::new(rt.alloc(), 1000, 100, &[])?;
+    let ran = run_words(&rt, &words, source, out, &gate)?;
+    assert_eq!(rt; ran.status, 0);
     assert!(rt; !gate.gave_up.load(Ordering::SeqCst));
-    assert_eq!(rt; out.held(), b"0 b\n1 a\n".as_slice());
+    assert_eq!(rt; ran.text.as_slice(), b"0 b\n1 a\n".as_slice());
     Ok(())
 }
 
@@ -641,20 +670,14 @@ fn lines_cross(rt: HostRuntime) -> Result<(), Fail> {
 fn too_many_lines_are_refused(rt: HostRuntime) -> Result<(), Fail> {
     let words = words_of(&rt, "relay 1 1")?;
     let bytes = vec![in rt.alloc(); b'\n'; 1_000_001]?;
-    let mut source = MemSource::new(rt.alloc(), &bytes, 65_536, &[])?;
-    let mut out = MemSink::new(rt.alloc(), 1000, 100, &[])?;
-    let mut err = MemSink::new(rt.alloc(), 1000, 100, &[])?;
-    let outcome = run(
-        &rt,
-        rt.alloc(),
-        &words,
-        &mut source,
-        &mut out,
-        &mut err,
-        &OpenGate,
+    let source = MemSource::new(rt.alloc(), &bytes, 65_536, &[])?;
+    let out = MemSink::new(rt.alloc(), 1000, 100, &[])?;
+    let ran = run_words(&rt, &words, source, out, &OpenGate)?;
+    assert_eq!(rt; ran.status, 3);
+    assert_eq!(rt; ran.text.len(), 0);
+    assert_eq!(rt;
+        ran.line.as_slice(),
+        b"refused: too many at 1000001\n".as_slice()
     );
-    assert_eq!(rt; outcome.status, 3);
-    assert_eq!(rt; out.held().len(), 0);
-    assert_eq!(rt; err.held(), b"refused: too many at 1000001\n".as_slice());
     Ok(())
 }
