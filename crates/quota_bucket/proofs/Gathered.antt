@@ -6,7 +6,8 @@ use Rattle.std.proofs.lemmas.List.{length-map}
 use Rattle.std.proofs.lemmas.List.Elements.{All-head, All-tail, All-weaker, All-map}
 use Rattle.std.proofs.lemmas.Option.{slice_get-map}
 use mathlib.Core.List.{IsPrefix}
-use Rattle.running.specs.Running.{numbers_from, upto}
+use Rattle.running.specs.Running.{upto}
+use Rattle.running.proofs.Lists.{length_numbers}
 use Rattle.running.proofs.Logs.{prefix_more}
 use Rattle.fn_model.specs.declared.Call.{Call}
 use Rattle.fn_model.specs.Calls.{own as own_calls}
@@ -39,10 +40,6 @@ numbers_same b (d ∷ desks) all = λ i. (All-head (Belongs b) d desks all).numb
 seat_numbers : (desks : List DeskView) → map (λ (s : SeatView). s.number) (map (λ (d : DeskView). d.seat) desks) ≡ map (λ (d : DeskView). d.seat.number) desks
 seat_numbers [] = refl
 seat_numbers (d ∷ desks) = ap (λ (ns : List ℕ). d.seat.number ∷ ns) (seat_numbers desks)
-
-length_numbers : (first count : ℕ) → length (numbers_from first count) ≡ count
-length_numbers first zero = refl
-length_numbers first (suc count) = ap suc (length_numbers (suc first) count)
 
 -- what the two closings ask
 pub record AreReady (b : BucketView) (passes : List PassView) (seats : List SeatView) : Type 0 where

@@ -1,5 +1,5 @@
 -- Lists of seats: as numbers are dealt to them, and one by one.
-use Rattle.std.proofs.Common.{map, ◌≡◌, ℕ, zero, suc, ◌+◌, ◌-◌, ◌<◌, List, [], ◌∷◌, ◌++◌, All, sym, ap, ◌∙◌, subst, arith}
+use Rattle.std.proofs.Common.{map, ◌≡◌, ℕ, zero, suc, ◌+◌, ◌-◌, ◌<◌, List, [], ◌∷◌, ◌++◌, All, sym, ap, ◌∙◌, subst, arith, length, refl}
 use Rattle.std.specs.Prelude.{Some, slice_get}
 use Rattle.std.proofs.lemmas.List.{map-append}
 use Rattle.std.proofs.lemmas.List.Elements.{All-head, All-same}
@@ -12,6 +12,11 @@ pub next_numbers : (k limit : ℕ) → k < limit → numbers_from k (limit - k) 
 next_numbers k limit below =
     numbers_first k (limit - k) (omega arith)
     ∙ ap (λ (z : ℕ × ℕ). k ∷ numbers_from z.0 z.1) (λ i. (let e : suc k ≡ k + 1 = omega arith in e i, let e : limit - k - 1 ≡ limit - (k + 1) = omega arith in e i))
+
+-- there are as many numbers as are counted
+pub length_numbers : (k count : ℕ) → length (numbers_from k count) ≡ count
+length_numbers k zero = refl
+length_numbers k (suc count) = ap suc (length_numbers (suc k) count)
 
 module _ {A : Type 0} where
   -- one seat more, behind those of the numbers from 1 on

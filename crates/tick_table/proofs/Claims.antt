@@ -6,6 +6,7 @@ use Rattle.std.proofs.lemmas.List.Sums.{fold-append, sum_by-cons}
 use mathlib.Core.Logic.{dite}
 use native.Mathlib.Decide.{dec_lt, dec_le}
 use Rattle.running.specs.Running.{numbers_from, times}
+use Rattle.running.proofs.Lists.{length_numbers}
 use Rattle.running.proofs.Numbers.{times_once, times_in}
 use Rattle.tick_table.specs.declared.entry.Entry.{Entry}
 use Rattle.tick_table.specs.Claims.{reach, between, claims, counts, ReachIsGreatest, ClaimsGoOn, ClaimsFollow, EachTickOnce, ClaimsAddUp}
@@ -100,10 +101,6 @@ follow from xs ys e =
     let whole : claims from (xs ++ e ∷ ys) ≡ claims from xs ++ (between r e.tick ++ claims (max r e.tick) ys) = claims-append from xs (e ∷ ys) in
     let next : max r e.tick ≡ reach from (xs ++ e ∷ []) = sym (reach-append from xs (e ∷ [])) in
     whole ∙ ap (λ (n : ℕ). claims from xs ++ (between r e.tick ++ claims n ys)) next
-
-length_numbers : (k c : ℕ) → length (numbers_from k c) ≡ c
-length_numbers k zero = refl
-length_numbers k (suc c) = ap suc (length_numbers (suc k) c)
 
 -- how many ticks lie above one up to another
 pub between_length : (low high : ℕ) → length (between low high) ≡ high - low

@@ -11,7 +11,7 @@ use Rattle.running.proofs.Keeps.{begins, enters}
 use Rattle.running.proofs.Looks.{looks}
 use Rattle.running.proofs.Logs.{guard_at}
 use Rattle.running.proofs.Lists.{next_numbers, each_at}
-use Rattle.running.proofs.Numbers.{numbers_first, times_once}
+use Rattle.running.proofs.Numbers.{times_once}
 use Rattle.tick_table.specs.declared.entry.Start.{Start}
 use Rattle.tick_table.specs.declared.entry.Entry.{Entry}
 use Rattle.tick_table.specs.Ticks.{ticks}
