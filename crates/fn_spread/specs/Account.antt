@@ -1,6 +1,6 @@
 -- How the draws came about: the funnel, and the book that it closed into.
 --     IsFunnelFor workers grain count start      what the funnel opened with
---     IsBookOf workers grain count draws book      its book
+--     IsBookOfDraws workers grain count draws book      its book
 use Rattle.std.specs.Prelude.{◌≡◌, ℕ, suc, ◌*◌, List, map, All, replicate}
 use Rattle.running.specs.Running.{upto}
 use Rattle.fn_model.specs.declared.TheConstants.{NO_CAP}
@@ -20,7 +20,7 @@ pub record IsFunnelFor (workers grain count : ℕ) (start : Start) : Type 0 wher
   pub has_allowances : start.allowances ≡ replicate workers (suc (ranges_of grain count) * grain)
 
 -- The book is legal, of such a funnel, and closed with the passes of all workers, none of which had a call underway; its calls are the draws
-pub record IsBookOf (workers grain count : ℕ) (draws : List ℕ) (book : CoreLog) : Type 0 where
+pub record IsBookOfDraws (workers grain count : ℕ) (draws : List ℕ) (book : CoreLog) : Type 0 where
   pub legal : IsLegal book
   pub opened : IsFunnelFor workers grain count book.start
   pub closed : (passes : List PassView) × (map (λ p. p.number) passes ≡ upto workers) × All Rests passes × IsClosed passes book

@@ -9,7 +9,7 @@ use Rattle.trace_text.specs.declared.scripts.Script.{Script}
 use Rattle.trace_text.specs.declared.scripts.ScriptLine.{ScriptLine}
 use Rattle.fn_rounds.specs.Script.{IsChangeOrder, other_order}
 use Rattle.tool_words.specs.declared.commands.Command.{Command}
-use Rattle.tool_words.specs.declared.commands.Command.TheVariants.{Play, Trial, Replay, Drill, Relay, Rounds}
+use Rattle.tool_words.specs.declared.commands.Command.TheVariants.{Play, Trial, Replay, Drill, Relay, Rounds, Tally}
 use Rattle.funnel_tool.specs.Outcome.{Accepts, Ends, HasInput, Input, IsAccepted, IsCalm, IsComplete, IsRefused, Output, Reads, Refuses, status_of}
 use Rattle.funnel_tool.specs.Trial.{IsHalted}
 use Rattle.funnel_tool.specs.declared.ending.Ending.{Ending}
@@ -135,6 +135,8 @@ not-refused (Relay workers capacity) input why callers accepts none (inr read) =
 not-refused Rounds input why callers accepts none (inl long) = not-many input accepts.0 long.0 accepts.1 accepts.2 long.1 long.2
 not-refused Rounds input why callers accepts none (inr read) =
     rounds-accepts read.0 why callers (rw (told-all input accepts.0 read.0 accepts.1 read.1.0 read.1.1) at accepts.3) read.2
+not-refused (Tally workers grain) input why callers accepts none (inl long) = not-many input accepts.0 long.0 accepts.1 accepts.2 long.1 long.2
+not-refused (Tally workers grain) input why callers accepts none (inr read) = read.2
 
 some-same : (a b : Command) (asked : Option Command) → asked ≡ Some a → asked ≡ Some b → a ≡ b
 some-same a b asked first second = cc (sym first ∙ second)

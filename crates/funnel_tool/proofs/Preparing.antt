@@ -5,8 +5,8 @@ use Rattle.fn_rounds.specs.Script.{IsBookOf, TellsRounds}
 use Rattle.trace_text.specs.Script.{script_of, content}
 use Rattle.trace_text.specs.declared.scripts.Script.{Script}
 use Rattle.tool_words.specs.declared.commands.Command.{Command}
-use Rattle.tool_words.specs.declared.commands.Command.TheVariants.{Play, Trial, Replay, Drill, Relay, Rounds}
-use Rattle.funnel_tool.specs.Outcome.{Ends, HasChanges, Input, IsRefused, Output, Reads, Refuses, Stops, WritesNothing}
+use Rattle.tool_words.specs.declared.commands.Command.TheVariants.{Play, Trial, Replay, Drill, Relay, Rounds, Tally}
+use Rattle.funnel_tool.specs.Outcome.{Ends, HasChanges, HasTallied, Input, IsRefused, Output, Reads, Refuses, Stops, WritesNothing}
 use Rattle.funnel_tool.specs.Telling.{CantTell, Finishes, HasBook, IsPrepared, IsTelling}
 use Rattle.funnel_tool.specs.Trial.{TellsTrial}
 use Rattle.funnel_tool.specs.declared.ending.Ending.{Ending}
@@ -26,6 +26,7 @@ not-long (Replay workers) bytes callers refuses = refuses
 not-long (Drill seed rows workers) bytes callers refuses = refuses
 not-long (Relay workers capacity) bytes callers refuses = refuses
 not-long Rounds bytes callers refuses = refuses
+not-long (Tally workers grain) bytes callers refuses = refuses
 
 refused-read : (command : Command) (input : Input) (bytes : List ℕ) (why : Refusal) (callers : List Caller) → Reads command input bytes → Refuses command bytes why callers → IsRefused command input why callers
 refused-read command input bytes TooLong callers reads refuses = absurd (not-long command bytes callers refuses)
@@ -84,3 +85,9 @@ pub rounds-telling : (bytes : List ℕ) (script : Script) (text : List ℕ) (boo
     → TellsRounds script text (calls_in book) → IsBookOf script book → HasBook text book result → IsTelling Rounds bytes result
 rounds-telling bytes script text book (Ok told) read changes tells opened has = (script, book, read, changes, rw has.0 tells, opened, has.1, has.2, has.3)
 rounds-telling bytes script text book (Err untold) read changes tells opened has = rw has.0 has.1
+
+-- .. and of a tally
+pub tally-telling : (workers grain : ℕ) (bytes text : List ℕ) (book : CoreLog) (result : Result Told Untold) → HasTallied workers grain bytes text book → HasBook text book result
+    → IsTelling (Tally workers grain) bytes result
+tally-telling workers grain bytes text book (Ok told) tallied has = (book, rw has.0 tallied, has.1, has.2, has.3)
+tally-telling workers grain bytes text book (Err untold) tallied has = rw has.0 has.1

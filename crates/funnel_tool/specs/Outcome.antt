@@ -26,12 +26,14 @@ use Rattle.trace_text.specs.declared.traces.TraceFault.TheVariants as trace
 use Rattle.replay_run.specs.Replay.{IsReplay, value_in}
 use Rattle.tq_queue.specs.Seen.{BookView}
 use Rattle.fn_rounds.specs.Script.{IsBookOf, IsChangeOrder, TellsRounds, other_order}
+use Rattle.fn_spread.specs.Account.{IsBookOfDraws}
+use Rattle.fn_spread.specs.Tally.{draws_in, newlines_in, pieces_in, tally_line}
 use Rattle.relay_run.specs.Lines.{lines_of}
 use Rattle.relay_run.specs.Relay.{IsRelay, order_of, text_from}
 use Rattle.relay_run.specs.declared.lines.TheConstants.{MOST_LINES}
 use Rattle.replay_report.specs.Report.{report_text, summary_line, summary_text}
 use Rattle.tool_words.specs.declared.commands.Command.{Command}
-use Rattle.tool_words.specs.declared.commands.Command.TheVariants.{Play, Trial, Replay, Drill, Relay, Rounds}
+use Rattle.tool_words.specs.declared.commands.Command.TheVariants.{Play, Trial, Replay, Drill, Relay, Rounds, Tally}
 use Rattle.funnel_tool.specs.Play.{play_text}
 use Rattle.funnel_tool.specs.Replies.{IsRunText}
 use Rattle.funnel_tool.specs.Trial.{IsHalted, TellsTrial}
@@ -129,7 +131,12 @@ HasRelayed workers capacity lines text answers books queue =
 abbrev pub HasChanges : Script → Type 0
 HasChanges script = All (λ line. IsChangeOrder line.order) script.lines
 
--- the text of a command, and what it hands back: the answers and books of a replay, the book of a trial or of calls in turns, or the book of a relay's queue
+-- the line of a tally, and the book of its draws
+abbrev pub HasTallied : ℕ → ℕ → List ℕ → List ℕ → CoreLog → Type 0
+HasTallied workers grain bytes text book =
+    (text ≡ tally_line (newlines_in bytes) (length bytes) (draws_in workers grain (length bytes))) × ((draws : List ℕ) × IsBookOfDraws workers grain (pieces_in (length bytes)) draws book)
+
+-- the text of a command, and what it hands back: the answers and books of a replay, the book of a trial, of calls in turns or of a tally, or the book of a relay's queue
 abbrev pub Tells : Command → List ℕ → List ℕ → List Moved → List CoreLog → Option (BookView ℕ) → Type 0
 Tells Play bytes text answers books queue = (s : Script) × (script_of bytes ≡ Ok (content s)) × IsRunText s text × (answers ≡ []) × (books ≡ []) × (queue ≡ None)
 Tells Trial bytes text answers books queue = (s : Script) × (book : CoreLog) × (script_of bytes ≡ Ok (content s)) × TellsTrial s text book × (answers ≡ []) × (books ≡ book ∷ []) × (queue ≡ None)
@@ -139,6 +146,7 @@ Tells (Drill seed rows workers) bytes text answers books queue = IsSummary worke
 Tells (Relay workers capacity) bytes text answers books queue = (length (lines_of bytes) ≤ MOST_LINES) × HasRelayed workers capacity (lines_of bytes) text answers books queue
 Tells Rounds bytes text answers books queue =
     (s : Script) × (book : CoreLog) × (script_of bytes ≡ Ok (content s)) × HasChanges s × TellsRounds s text (calls_in book) × IsBookOf s book × (answers ≡ []) × (books ≡ book ∷ []) × (queue ≡ None)
+Tells (Tally workers grain) bytes text answers books queue = (book : CoreLog) × HasTallied workers grain bytes text book × (answers ≡ []) × (books ≡ book ∷ []) × (queue ≡ None)
 
 -- why bytes are no script, or one that can't be done
 abbrev pub RefusesScript : List ℕ → Refusal → (Script → PlayFault → Type 0) → List Caller → Type 0
@@ -170,6 +178,7 @@ Refuses (Replay workers) bytes why callers = RefusesTrace workers bytes why call
 Refuses (Drill seed rows workers) bytes why callers = ⊥
 Refuses (Relay workers capacity) bytes why callers = RefusesLines bytes why callers
 Refuses Rounds bytes why callers = RefusesOrders bytes why callers
+Refuses (Tally workers grain) bytes why callers = ⊥
 
 -- a command that refuses its input has read it, but for input that is too long to its end
 abbrev pub IsRefused : Command → Input → Refusal → List Caller → Type 0
@@ -202,7 +211,7 @@ Ends asked input output outcome WriteFailed = HasText asked input output outcome
 Ends asked input output outcome WriteStuck = HasText asked input output outcome WriteStuck
 Ends asked input output outcome ending = HasNoText asked input output outcome ending
 
--- bytes in which a command finds no fault: a script that plays to an end, a script, a trace, lines, or a script of additions and subtractions
+-- bytes in which a command finds no fault: a script that plays to an end, a script, a trace, lines, a script of additions and subtractions, or any
 abbrev pub IsAccepted : Command → List ℕ → Type 0
 IsAccepted Play bytes = (s : Script) × (text : List ℕ) × (script_of bytes ≡ Ok (content s)) × (play_text s ≡ Ok text)
 IsAccepted Trial bytes = (s : Script) × (script_of bytes ≡ Ok (content s))
@@ -210,6 +219,7 @@ IsAccepted (Replay workers) bytes = (t : Content) × (trace_of workers bytes ≡
 IsAccepted (Drill seed rows workers) bytes = Unit {0}
 IsAccepted (Relay workers capacity) bytes = length (lines_of bytes) ≤ MOST_LINES
 IsAccepted Rounds bytes = (s : Script) × (script_of bytes ≡ Ok (content s)) × HasChanges s
+IsAccepted (Tally workers grain) bytes = Unit {0}
 
 -- a command finds no fault in what a source has left
 abbrev pub Accepts : Command → Option (List ℕ) → Type 0
@@ -288,7 +298,7 @@ refusal_text (ByOrder at) = codes "op at " ++ decimal at
 -- the line of an ending on standard error
 abbrev pub error_line : Ending → List ℕ
 error_line Done = []
-error_line Words = codes "usage: funnel_tool play | trial | replay WORKERS | drill SEED ROWS WORKERS | relay WORKERS CAPACITY | rounds\n"
+error_line Words = codes "usage: funnel_tool play | trial | replay WORKERS | drill SEED ROWS WORKERS | relay WORKERS CAPACITY | rounds | tally WORKERS GRAIN\n"
 error_line (Refused why) = codes "refused: " ++ refusal_text why ++ codes "\n"
 error_line ReadFailed = codes "read failed\n"
 error_line WriteFailed = codes "write failed\n"

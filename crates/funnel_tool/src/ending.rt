@@ -67,7 +67,7 @@ impl Ending {
 }
 
 static USAGE: &[u8] =
-    b"usage: funnel_tool play | trial | replay WORKERS | drill SEED ROWS WORKERS | relay WORKERS CAPACITY | rounds\n";
+    b"usage: funnel_tool play | trial | replay WORKERS | drill SEED ROWS WORKERS | relay WORKERS CAPACITY | rounds | tally WORKERS GRAIN\n";
 
 const ROOM: usize = 160;
 

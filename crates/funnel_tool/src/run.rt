@@ -9,7 +9,8 @@ ghost use Rattle.funnel_tool.specs.Telling.{Finishes, HasRead, IsPrepared};
 
 use crate::ending::{Ending, INPUT_LIMIT, Refusal};
 use crate::telling::{
-    Told, Untold, tell_drill, tell_play, tell_relay, tell_replay, tell_rounds, tell_trial,
+    Told, Untold, tell_drill, tell_play, tell_relay, tell_replay, tell_rounds, tell_tally,
+    tell_trial,
 };
 use crate::trial::Caller;
 use edge_io::{ReadFault, Sink, Source, WriteFault, read_all, write_all};
@@ -129,8 +130,11 @@ fn tell_script<S: Source>(alloc: Global, command: Command, source: &mut S) -> Re
     match command {
         Command::Play => tell_play(alloc, &read_input(alloc, source)?),
         Command::Trial => tell_trial(alloc, &read_input(alloc, source)?),
-        Command::Replay { .. } | Command::Drill { .. } | Command::Relay { .. } | Command::Rounds =>
-            Err(Untold::new(alloc, Ending::Words)),
+        Command::Replay { .. }
+        | Command::Drill { .. }
+        | Command::Relay { .. }
+        | Command::Rounds
+        | Command::Tally { .. } => Err(Untold::new(alloc, Ending::Words)),
     }
 }
 
@@ -167,6 +171,9 @@ fn tell_command<R: Threads + Wait + Sync + RandomSource + AllocGlobal, S: Source
             )
         }
         Command::Rounds => tell_rounds(rt, alloc, &read_input(alloc, source)?),
+        Command::Tally { workers, grain } => {
+            tell_tally(rt, alloc, workers, grain, &read_input(alloc, source)?)
+        }
     }
 }
 

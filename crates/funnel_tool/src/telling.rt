@@ -7,12 +7,14 @@ ghost use Rattle.trace_text.specs.Trace.{content};
 ghost use Rattle.tool_words.specs.declared.commands.Command.TheVariants as command;
 ghost use Rattle.relay_run.specs.declared.lines.TheConstants.{MOST_LINES};
 ghost use Rattle.funnel_tool.specs.Outcome.{HasRelayed, IsReport, IsSummary};
+ghost use Rattle.funnel_tool.specs.declared.ending.TheConstants.{INPUT_LIMIT};
 ghost use Rattle.funnel_tool.specs.Telling.{HasBook, HasScript, IsTelling};
 
 use crate::ending::{Ending, Refusal};
 use crate::play::{PlayFault, play_script};
 use crate::trial::{Caller, trial_script};
 use fn_rounds::{other_order, rounds_text};
+use fn_spread::tally_text;
 use fn_table::Book;
 use quota_pool::Moved;
 use relay_run::{Lines, LinesFault, QueueBook, Relayed, relay, relay_text, split_lines};
@@ -274,6 +276,25 @@ pub fn tell_rounds<R: Wait + RandomSource + AllocGlobal>(
             Ok((text, book)) => tell_book(alloc, text, book),
             Err(_) => Err(Untold::new(alloc, Ending::NoMemory)),
         },
+    }
+}
+
+/// Counts the newlines of the input.
+pub fn tell_tally<R: Threads + Wait + Sync>(
+    rt: &R,
+    alloc: Global,
+    workers: u32,
+    grain: u64,
+    bytes: &[u8],
+) -> Result<Told, Untold>
+    requires bytes { length bytes.now ≤ INPUT_LIMIT }
+    requires workers { (1 ≤ workers) × (workers ≤ 64) }
+    requires grain { (1 ≤ grain) × (grain ≤ 1024) }
+    ensures { IsTelling (command.Tally workers grain) bytes.now result }
+{
+    match tally_text(rt, alloc, bytes, workers, grain) {
+        Ok((text, book)) => tell_book(alloc, text, book),
+        Err(_) => Err(Untold::new(alloc, Ending::NoMemory)),
     }
 }
 

@@ -30,9 +30,9 @@ const DISK: &str = "0,open,disk,10\n0,take,disk,4\n0,take,disk,9\n0,add,disk,3\n
 const LINES: &str = "row,2,10,4\nrow,3,6,6\nrow,4,0,3\nrow,5,3,0\ntotal,disk,10,3,10,3\n";
 
 const USAGE: &str =
-    "usage: funnel_tool play | trial | replay WORKERS | drill SEED ROWS WORKERS | relay WORKERS CAPACITY | rounds\n";
+    "usage: funnel_tool play | trial | replay WORKERS | drill SEED ROWS WORKERS | relay WORKERS CAPACITY | rounds | tally WORKERS GRAIN\n";
 
-static ROWS: [Row; 52] = [
+static ROWS: [Row; 55] = [
     // a take meets less than its amount
     Row {
         line: "replay 1",
@@ -456,6 +456,31 @@ static ROWS: [Row; 52] = [
         stdout: "",
         stderr: "refused: header at 1\n",
         status: 3,
+    },
+    // newlines
+    Row {
+        line: "tally 2 1",
+        first: "a\n",
+        records: "b\n",
+        stdout: "newlines 2 bytes 4 draws 3\n",
+        stderr: "",
+        status: 0,
+    },
+    Row {
+        line: "tally 3 5",
+        first: "",
+        records: "",
+        stdout: "newlines 0 bytes 0 draws 3\n",
+        stderr: "",
+        status: 0,
+    },
+    Row {
+        line: "tally 1 1025",
+        first: "",
+        records: "",
+        stdout: "",
+        stderr: USAGE,
+        status: 2,
     },
     Row {
         line: "rounds x",

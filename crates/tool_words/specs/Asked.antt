@@ -11,7 +11,7 @@ use Rattle.tool_words.specs.Words.{given, reads}
 use Rattle.tool_words.specs.declared.commands.Command.{Command}
 use Rattle.tool_words.specs.declared.commands.Command.TheVariants as command
 use Rattle.tool_words.specs.declared.verbs.Verb.{Verb}
-use Rattle.tool_words.specs.declared.verbs.Verb.TheVariants.{Play, Trial, Replay, Drill, Relay, Rounds}
+use Rattle.tool_words.specs.declared.verbs.Verb.TheVariants.{Play, Trial, Replay, Drill, Relay, Rounds, Tally}
 
 -- how a verb is written
 abbrev pub spelling : Verb → Text
@@ -21,10 +21,11 @@ spelling Replay = codes "replay"
 spelling Drill = codes "drill"
 spelling Relay = codes "relay"
 spelling Rounds = codes "rounds"
+spelling Tally = codes "tally"
 
 -- the verb that a word is
 unfoldable pub verb_of : Text → Option Verb
-verb_of word = spelled_as spelling word (Play ∷ Trial ∷ Replay ∷ Drill ∷ Relay ∷ Rounds ∷ [])
+verb_of word = spelled_as spelling word (Play ∷ Trial ∷ Replay ∷ Drill ∷ Relay ∷ Rounds ∷ Tally ∷ [])
 
 -- how many words stand behind a verb
 abbrev pub count_of : Verb → ℕ
@@ -34,6 +35,7 @@ count_of Replay = 1
 count_of Drill = 3
 count_of Relay = 2
 count_of Rounds = 0
+count_of Tally = 2
 
 -- the number that a word is, from low to high
 abbrev pub number_in : ℕ → ℕ → Option Text → Option ℕ
@@ -47,6 +49,7 @@ InRange (command.Replay workers) = (1 ≤ workers) × (workers ≤ 64)
 InRange (command.Drill seed rows workers) = (seed ≤ 1000000) × (1 ≤ rows) × (rows ≤ 1000000) × (1 ≤ workers) × (workers ≤ 64)
 InRange (command.Relay workers capacity) = (1 ≤ workers) × (workers ≤ 64) × (1 ≤ capacity) × (capacity ≤ 65536)
 InRange command.Rounds = Unit {0}
+InRange (command.Tally workers grain) = (1 ≤ workers) × (workers ≤ 64) × (1 ≤ grain) × (grain ≤ 1024)
 
 -- what is made of such a number
 abbrev pub numbered : {A : Type 0} → ℕ → ℕ → Option Text → (ℕ → Option A) → Option A
@@ -65,6 +68,9 @@ command_as Relay word =
     numbered 1 64 (word (codes "first")) (λ workers.
     numbered 1 65536 (word (codes "second")) (λ capacity. Some (command.Relay workers capacity)))
 command_as Rounds word = Some command.Rounds
+command_as Tally word =
+    numbered 1 64 (word (codes "first")) (λ workers.
+    numbered 1 1024 (word (codes "second")) (λ grain. Some (command.Tally workers grain)))
 
 -- the command of a verb, where the words behind the first are as many as it has
 abbrev pub with_verb : Verb → List (String Global) → Option Command

@@ -15,4 +15,6 @@ pub enum Command {
     Relay { workers: u32, capacity: u32 },
     /// makes a script's additions and subtractions in turns, all in one thread
     Rounds,
+    /// counts the newlines of its input by workers that draw so many pieces at a time
+    Tally { workers: u32, grain: u64 },
 }

@@ -66,6 +66,11 @@ fn command_as(verb: Verb, matches: &ArgMatches) -> Option<Command>
             Some(Command::Relay { workers, capacity })
         }
         Verb::Rounds => Some(Command::Rounds),
+        Verb::Tally => {
+            let workers = number_in(matches, "first", 1, 64)? as u32;
+            let grain = number_in(matches, "second", 1, 1024)?;
+            Some(Command::Tally { workers, grain })
+        }
     }
 }
 

@@ -26,6 +26,10 @@ fn relay(workers: u32, capacity: u32) -> Option<Command> {
     Some(Command::Relay { workers, capacity })
 }
 
+fn tally(workers: u32, grain: u64) -> Option<Command> {
+    Some(Command::Tally { workers, grain })
+}
+
 #[test]
 fn words_ask_for_commands(rt: HostRuntime) -> Result<(), Fail> {
     for (line, command) in [
@@ -56,6 +60,9 @@ fn words_ask_for_commands(rt: HostRuntime) -> Result<(), Fail> {
         ("drill 1 1", None),
         ("relay 1 65537", None),
         ("rounds x", None),
+        ("tally 64 1024", tally(64, 1024)),
+        ("tally 1 1025", None),
+        ("tally 1", None),
     ] {
         assert_eq!(rt; read(&rt, line)?, command);
     }

@@ -11,6 +11,7 @@ pub enum Verb {
     Drill,
     Relay,
     Rounds,
+    Tally,
 }
 
 /// The verb that a word is.
@@ -25,6 +26,7 @@ pub fn verb_of(word: &str) -> Option<Verb>
         "drill" => Some(Verb::Drill),
         "relay" => Some(Verb::Relay),
         "rounds" => Some(Verb::Rounds),
+        "tally" => Some(Verb::Tally),
         _ => None,
     }
 }
@@ -38,6 +40,6 @@ pub fn count_of(verb: Verb) -> usize
         Verb::Play | Verb::Trial | Verb::Rounds => 0,
         Verb::Replay => 1,
         Verb::Drill => 3,
-        Verb::Relay => 2,
+        Verb::Relay | Verb::Tally => 2,
     }
 }

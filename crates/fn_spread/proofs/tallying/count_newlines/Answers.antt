@@ -2,7 +2,7 @@
 use Rattle.std.proofs.Common.{◌≡◌, List, ℕ, length, map, sym, ap, ◌∙◌, subst, Bor}
 use Rattle.std.proofs.lemmas.List.{length-map}
 use Rattle.std.proofs.lemmas.Result.{IfOk-weaker}
-use Rattle.fn_spread.specs.Account.{IsBookOf}
+use Rattle.fn_spread.specs.Account.{IsBookOfDraws}
 use Rattle.fn_spread.specs.Tally.{newlines_in, pieces_in}
 use Rattle.fn_spread.proofs.Tallies.{all_newlines}
 use Rattle.fn_spread.proofs.tallying.count_newlines.Goals as goal
@@ -17,4 +17,4 @@ pub returns-clause-book : goal.returns-clause-book
 returns-clause-book g c =
     let now = λ (piece : Bor (List ℕ)). piece.now in
     let size : length c.deref.result.now ≡ pieces_in (length c.args.bytes.now) = ap length c.deref.ensures.value ∙ sym (length-map c.in_ok-pieces.pieces.items now) ∙ c.in_ok-pieces.ensures.1 in
-    IfOk-weaker c.count_pieces.result _ _ (λ counted book. subst (λ n. IsBookOf c.args.workers c.args.grain n counted.draws.items counted.book) size book) c.count_pieces.ensures.book
+    IfOk-weaker c.count_pieces.result _ _ (λ counted book. subst (λ n. IsBookOfDraws c.args.workers c.args.grain n counted.draws.items counted.book) size book) c.count_pieces.ensures.book

@@ -1,5 +1,5 @@
 use Rattle.std.proofs.Common.{Some, refl, ap, []}
-use Rattle.tool_words.specs.declared.commands.Command.TheVariants.{Replay, Drill, Relay, Rounds}
+use Rattle.tool_words.specs.declared.commands.Command.TheVariants.{Replay, Drill, Relay, Rounds, Tally}
 use Rattle.funnel_tool.specs.Outcome.{reading}
 use Rattle.funnel_tool.proofs.Preparing.{telling-prepared}
 use Rattle.funnel_tool.proofs.run.tell_command.Goals as goal
@@ -23,3 +23,8 @@ pub returns-in_ok-read_input-in-Rounds-clause-prepared : goal.returns-in_ok-read
 returns-in_ok-read_input-in-Rounds-clause-prepared g c =
     telling-prepared Rounds (Some c.args.command) (reading (g.S.Source.left c.args.source.now) (g.S.Source.left c.read_input-in-Rounds.new.source) (g.S.Source.faults c.args.source.now) (g.S.Source.faults c.read_input-in-Rounds.new.source))
     c.deref-in-Rounds.result.now c.tell_rounds.result (ap Some c.in-Rounds.is) (rw c.deref-in-Rounds.ensures.value c.in_ok-read_input-in-Rounds.ensures.read) c.tell_rounds.ensures
+
+pub returns-in_ok-read_input-in-Tally-clause-prepared : goal.returns-in_ok-read_input-in-Tally-clause-prepared
+returns-in_ok-read_input-in-Tally-clause-prepared g c =
+    telling-prepared (Tally c.in-Tally.workers c.in-Tally.grain) (Some c.args.command) (reading (g.S.Source.left c.args.source.now) (g.S.Source.left c.read_input-in-Tally.new.source) (g.S.Source.faults c.args.source.now) (g.S.Source.faults c.read_input-in-Tally.new.source))
+    c.deref-in-Tally.result.now c.tell_tally.result (ap Some c.in-Tally.is) (rw c.deref-in-Tally.ensures.value c.in_ok-read_input-in-Tally.ensures.read) c.tell_tally.ensures
