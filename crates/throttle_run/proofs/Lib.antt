@@ -1,0 +1,3 @@
+pub mod ReadingFaults
+pub mod ReadingSpelled
+pub mod ReadingSteps
