@@ -126,7 +126,7 @@ stops-later workers burst at total line rest read u sum found was limit counted 
   ap (λ (text : List (List ℕ)). line ∷ text) s.4,
   lines_of-one workers burst at total line s.0 read u sum s.3 was limit counted s.5,
   at-place workers burst (at + 1 + length s.0) (sum + sum_by (cost burst) s.3) (at + suc (length s.0)) (total + sum_by (cost burst) (option_to_list read ++ s.3)) s.1 found
-  (omega arith) (total-after burst at total sum read s.3 counted) s.6,
+      (omega arith) (total-after burst at total sum read s.3 counted) s.6,
 )
 
 own-fault : (workers at : ℕ) (line : List ℕ) (found : ThrottleFault) → line_of workers at (words line) ≡ Err found → line_fault workers at (words line) ≡ Some found

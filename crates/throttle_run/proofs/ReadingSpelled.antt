@@ -1,5 +1,5 @@
 -- What is read is in the grammar, and what is in the grammar is read.
-use Rattle.std.proofs.Common.{rules, tests, ◌≡◌, ℕ, suc, ◌+◌, ◌<◌, ◌≤◌, true, false, List, [], ◌∷◌, ◌++◌, length, Option, Some, None, Result, Ok, Err, inl, inr, refl, sym, arith}
+use Rattle.std.proofs.Common.{rules, tests, ◌≡◌, ℕ, suc, ◌+◌, ◌<◌, ◌≤◌, true, false, List, [], ◌∷◌, ◌++◌, length, Option, Some, None, Result, Ok, Err, inl, inr, refl, sym, subst, ◌∙◌, arith}
 use Rattle.std.specs.Prelude.{IfOk, nat_lt, option_to_list, if◌then◌else◌}
 use Rattle.std.specs.List.{AllByRecursion, sum_by}
 use Rattle.std.proofs.lemmas.List.Elements.{All-from_recursion}
@@ -45,17 +45,20 @@ take_of-is workers at worker now amount line h =
     let same : record { at = at; worker = who.0; now = moment.0; amount = tokens.0 } ≡ line = cc in
     let who_is = worker_of-is workers at worker who.0 who.1 in
     let tokens_are = amount_of-is at amount tokens.0 tokens.1 in
-    rw (← same) (refl, record {
-      worker = worker;
-      moment = now;
-      tokens = amount;
-      spelled = refl;
-      worker_is = who_is.0;
-      moment_is = moment_of-is at now moment.0 moment.1;
-      tokens_are = tokens_are.0;
-      below = who_is.1;
-      least = tokens_are.1;
-    })
+    rw (← same) (
+      refl,
+      record {
+        worker = worker;
+        moment = now;
+        tokens = amount;
+        spelled = refl;
+        worker_is = who_is.0;
+        moment_is = moment_of-is at now moment.0 moment.1;
+        tokens_are = tokens_are.0;
+        below = who_is.1;
+        least = tokens_are.1;
+      },
+    )
 
 line_of-is : (workers at : ℕ) (all : List (List ℕ)) (line : ThrottleLine) → line_of workers at all ≡ Ok (Some line) → (line.at ≡ at) × SpellsTake workers line all
 unfolding line_of
@@ -239,3 +242,24 @@ takes-sound workers burst bytes items s =
       amounts = All-from_recursion _ items (spelled-amounts workers 1 items (lines bytes) s.each);
       total = s.total;
     }
+
+-- what is said of a text that was read
+pub record IsRead (workers burst : ℕ) (bytes : List ℕ) (items : List ThrottleLine) : Type 0 where
+  pub exact : throttle_of workers burst bytes ≡ Ok items
+  pub spelled : SpellsTakes workers burst bytes items
+  pub only : (others : List ThrottleLine) → SpellsTakes workers burst bytes others → ◌≡◌ {A = Result (List ThrottleLine) ThrottleFault} (Ok others) (Ok items)
+  pub sound : AreSound workers burst items
+
+pub is-read : (workers burst : ℕ) (bytes : List ℕ) (items : List ThrottleLine) → burst ≤ MOST_TOTAL → throttle_of workers burst bytes ≡ Ok items → IsRead workers burst bytes items
+is-read workers burst bytes items small is =
+    let spelled = takes-spelled workers burst bytes items small is in
+    record { exact = is; spelled = spelled; only = λ others s. sym (takes-read workers burst bytes others s) ∙ is; sound = takes-sound workers burst bytes items spelled }
+
+-- what is said of a text that was refused
+pub record IsRefused (workers burst : ℕ) (bytes : List ℕ) (found : ThrottleFault) : Type 0 where
+  pub fails : Fails found (throttle_of workers burst bytes)
+  pub only : (others : List ThrottleLine) → SpellsTakes workers burst bytes others → Fails {Y = List ThrottleLine} found (Ok others)
+
+pub is-refused : (workers burst : ℕ) (bytes : List ℕ) (found : ThrottleFault) → Fails found (throttle_of workers burst bytes) → IsRefused workers burst bytes found
+is-refused workers burst bytes found fails =
+    record { fails = fails; only = λ others s. subst (λ (read : Result (List ThrottleLine) ThrottleFault). Fails found read) (takes-read workers burst bytes others s) fails }
