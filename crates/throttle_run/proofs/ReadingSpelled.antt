@@ -1,14 +1,14 @@
 -- What is read is in the grammar, and what is in the grammar is read.
-use Rattle.std.proofs.Common.{rules, tests, ◌≡◌, ℕ, suc, ◌+◌, ◌<◌, ◌≤◌, true, false, List, [], ◌∷◌, ◌++◌, length, Option, Some, None, Result, Ok, Err, inl, inr, refl, sym, subst, ◌∙◌, arith}
-use Rattle.std.specs.Prelude.{IfOk, nat_lt, option_to_list, if◌then◌else◌}
+use Rattle.std.proofs.Common.{rules, tests, ◌≡◌, ℕ, ◌+◌, ◌<◌, ◌≤◌, true, false, List, [], ◌∷◌, ◌++◌, length, Option, Some, None, Result, Ok, inl, inr, refl, sym, subst, ◌∙◌, arith}
+use Rattle.std.specs.Prelude.{nat_lt, option_to_list}
 use Rattle.std.specs.List.{AllByRecursion, sum_by}
 use Rattle.std.proofs.lemmas.List.Elements.{All-from_recursion}
 use Rattle.std.proofs.lemmas.List.Sums.{sum_by-cons}
 use Rattle.trace_text.proofs.SoundLines.{bind_ok, guard_err, guard_ok, lt-false, lt-true, required_ok}
-use Rattle.trace_text.specs.Steps.{◌>>=◌, required}
+use Rattle.trace_text.specs.Steps.{required}
 use Rattle.trace_text.specs.Text.{lines, number, words}
 use Rattle.throttle_run.specs.Grammar.{SpellsLines, SpellsTake, SpellsTakes}
-use Rattle.throttle_run.specs.Lines.{AreSound, Fails, Gives, amount_of, cost, line_of, lines_of, moment_of, take_of, throttle_of, total_with, within_limit, worker_of}
+use Rattle.throttle_run.specs.Lines.{AreSound, Fails, amount_of, cost, line_of, lines_of, moment_of, take_of, throttle_of, total_with, within_limit, worker_of}
 use Rattle.throttle_run.specs.declared.faults.ThrottleFault.{ThrottleFault}
 use Rattle.throttle_run.specs.declared.faults.ThrottleFault.TheVariants as fault
 use Rattle.throttle_run.specs.declared.lines.ThrottleLine.{ThrottleLine}

@@ -1,8 +1,8 @@
 -- The grammar of a text of takes: which bytes say what, apart from how they are read and from any fault.
-use Rattle.std.specs.Prelude.{◌≡◌, ℕ, ◌+◌, ◌^◌, ◌<◌, ◌≤◌, ◌⊎◌, ◌↔◌, List, [], ◌∷◌, length, Some, Ok}
+use Rattle.std.specs.Prelude.{◌≡◌, ℕ, ◌+◌, ◌^◌, ◌<◌, ◌≤◌, ◌⊎◌, List, [], ◌∷◌, length, Some}
 use Rattle.std.specs.List.{sum_by}
 use Rattle.trace_text.specs.Text.{lines, number, words}
-use Rattle.throttle_run.specs.Lines.{cost, throttle_of}
+use Rattle.throttle_run.specs.Lines.{cost}
 use Rattle.throttle_run.specs.declared.lines.ThrottleLine.{ThrottleLine}
 
 -- the words of a take: a worker that is there, a moment, and an amount of at least 1
