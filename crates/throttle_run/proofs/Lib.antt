@@ -1,3 +1,6 @@
+pub mod ReadingFaults
+pub mod ReadingSpelled
+pub mod ReadingSteps
 pub mod Served
 pub mod Dealt
 pub mod Gathered

@@ -6,8 +6,8 @@
 --     claims_of desk from log      how many ticks each entry of a desk claims
 --     IsServed, IsThrottled      the answers to a worker's lines, and to all
 --     IsBookOf workers burst book      the bucket opened full, at the moment 0
---     TellsThrottle      the text
-use Rattle.std.specs.Prelude.{◌≡◌, ⊤, ℕ, zero, suc, ◌+◌, ◌-◌, ◌*◌, ◌/◌, ◌<◌, ◌==◌, min, max, List, [], ◌∷◌, ◌++◌, length, map, filter, All, codes, decimal, if◌then◌else◌}
+--     TellsThrottle, TellsText      the text of lines, and of what bytes say
+use Rattle.std.specs.Prelude.{◌≡◌, ⊤, ℕ, zero, suc, ◌+◌, ◌-◌, ◌*◌, ◌/◌, ◌<◌, ◌==◌, min, max, List, [], ◌∷◌, ◌++◌, length, map, filter, All, Ok, codes, decimal, if◌then◌else◌}
 use Rattle.std.specs.List.{zip}
 use Rattle.fn_model.specs.declared.Call.{Call}
 use Rattle.fn_model.specs.declared.Kind.{Kind}
@@ -23,6 +23,7 @@ use Rattle.quota_bucket.specs.declared.desks.Taken.{Taken}
 use Rattle.quota_bucket.specs.Closed.{BucketLog, history}
 use Rattle.quota_bucket.specs.Refill.{refill}
 use Rattle.throttle_run.specs.declared.lines.ThrottleLine.{ThrottleLine}
+use Rattle.throttle_run.specs.Lines.{throttle_of}
 
 -- the lines of a worker, in order
 abbrev pub lines_of : ℕ → List ThrottleLine → List ThrottleLine
@@ -113,3 +114,9 @@ pub record TellsThrottle (workers burst rate period : ℕ) (lines : List Throttl
   pub answers : List Taken
   pub throttled : IsThrottled workers burst rate period lines answers book
   pub text : bytes ≡ lines_text lines answers ++ last_text (reach 0 book.ticks.log) (value burst burst (history book))
+
+-- The text tells of the lines that the bytes say
+pub record TellsText (workers burst rate period : ℕ) (bytes text : List ℕ) (book : BucketLog) : Type 0 where
+  pub lines : List ThrottleLine
+  pub read : throttle_of workers burst bytes ≡ Ok lines
+  pub told : TellsThrottle workers burst rate period lines text book

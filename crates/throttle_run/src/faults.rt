@@ -1,18 +1,19 @@
-//! Why lines of takes aren't served.
+//! Why a text is refused.
+
 use std::alloc::AllocError;
 
-/// Why lines of takes aren't served, with the number of the line.
+/// Why a text is no text of takes, with the number of the line.
 #[derive(Clone, Copy, Debug, PartialEq, Eq)]
 pub enum ThrottleFault {
-    /// there are not three words
+    /// too few or too many words
     Fields { at: u64 },
-    /// the first word is no worker
+    /// no number of a worker
     Worker { at: u64 },
-    /// the second word is no moment, or the third no amount of at least 1
+    /// no moment, or no amount of at least 1
     Amount { at: u64 },
-    /// there are more than 1,000,000 lines
+    /// a line past the limit
     TooMany { at: u64 },
-    /// the tokens reach 2^63
+    /// the burst and what the lines may move reach 2^63
     Total { at: u64 },
     /// memory ran out
     NoMemory,

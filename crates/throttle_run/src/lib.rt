@@ -1,4 +1,4 @@
-//! Lines of takes go through a bucket by workers, and come out with what each met.
+//! Lines of takes go through a refilled bucket by workers, and come out with what each met.
 #![tactic(auto)]
 
 mod allowing;
@@ -13,6 +13,10 @@ mod workers;
 pub use faults::ThrottleFault;
 pub use lines::ThrottleLine;
 pub use quota_bucket::{BucketBook, Taken};
-pub use reading::read_lines;
-pub use throttling::throttle;
+pub use reading::{fault_laws, read_lines};
+pub use throttling::{throttle, throttle_text};
 
+#[cfg(test)]
+mod run_tests;
+#[cfg(test)]
+mod tests;

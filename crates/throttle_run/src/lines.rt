@@ -1,4 +1,4 @@
-//! The lines of takes.
+//! A line of a text of takes.
 
 /// A line with words: at a moment, a worker takes an amount.
 #[derive(Clone, Copy, Debug, PartialEq, Eq)]

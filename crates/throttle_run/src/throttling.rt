@@ -1,10 +1,10 @@
 //! Lines of takes go through a bucket.
-ghost use Rattle.std.specs.Prelude.{◌≡◌, ◌⊎◌, ◌≤◌, ◌<◌, ◌^◌, All, IfOk, IfErr, None, List, length};
+ghost use Rattle.std.specs.Prelude.{◌≡◌, ◌≤◌, All, IfOk, IfErr, None, length};
 ghost use Rattle.fn_model.specs.declared.TheConstants.{NO_CAP};
 ghost use Rattle.quota_bucket.specs.Faults.{bucket_fault};
 ghost use Rattle.quota_bucket.specs.Opened.{OpensWith, fresh_desks, IsNew};
-ghost use Rattle.throttle_run.specs.Lines.{AreSound};
-ghost use Rattle.throttle_run.specs.Throttled.{IsThrottled, IsBookOf, TellsThrottle};
+ghost use Rattle.throttle_run.specs.Lines.{AreSound, Fails, throttle_of};
+ghost use Rattle.throttle_run.specs.Throttled.{IsThrottled, IsBookOf, TellsThrottle, TellsText};
 ghost use Rattle.throttle_run.specs.Work.{Each, IsReady, IsDone, OpensFull};
 
 use crate::allowing::allowances;
@@ -192,7 +192,8 @@ pub fn throttle_text<R: Threads + Wait + Sync, B: Fn(u32, u64) + Sync, A: Fn(u32
     requires burst { (1 ≤ burst) × (burst ≤ NO_CAP) }
     requires rate { 1 ≤ rate }
     requires period { 1 ≤ period }
-    ensures told { IfOk result (λ r. (lines : List ThrottleLine) × AreSound workers burst lines × TellsThrottle workers burst rate period lines r.0.items r.1) }
+    ensures told { IfOk result (λ r. TellsText workers burst rate period bytes.now r.0.items r.1) }
+    ensures faults { IfErr result (λ fault. Fails fault (throttle_of workers burst bytes.now)) }
     ensures book { IfOk result (λ r. IsBookOf workers burst r.1) }
 {
     let lines = read_lines(alloc, bytes, workers, burst)?;
