@@ -17,7 +17,7 @@ mod tracing;
 
 pub use drill::make_drill;
 pub use fn_layout::{Shape, ShapeFault};
-pub use pieces::number;
+pub use pieces::{Lines, Words, number};
 pub use reading::{fault_laws, read_script};
 pub use scripts::{NoMemory, Order, Script, ScriptFault, ScriptLine, ScriptLines};
 pub use totals::{allowance_laws, allowances};

@@ -1,0 +1,9 @@
+pub mod ReadingFaults
+pub mod ReadingSpelled
+pub mod ReadingSteps
+pub mod Served
+pub mod Dealt
+pub mod Gathered
+pub mod Allowed
+pub mod Finished
+pub mod Ready

@@ -1,0 +1,31 @@
+-- The grammar of a text of takes: which bytes say what, apart from how they are read and from any fault.
+use Rattle.std.specs.Prelude.{◌≡◌, ℕ, ◌+◌, ◌^◌, ◌<◌, ◌≤◌, ◌⊎◌, List, [], ◌∷◌, length, Some}
+use Rattle.std.specs.List.{sum_by}
+use Rattle.trace_text.specs.Text.{lines, number, words}
+use Rattle.throttle_run.specs.Lines.{cost}
+use Rattle.throttle_run.specs.declared.lines.ThrottleLine.{ThrottleLine}
+
+-- the words of a take: a worker that is there, a moment, and an amount of at least 1
+pub record SpellsTake (workers : ℕ) (line : ThrottleLine) (all : List (List ℕ)) : Type 0 where
+  pub worker : List ℕ
+  pub moment : List ℕ
+  pub tokens : List ℕ
+  pub spelled : all ≡ worker ∷ moment ∷ tokens ∷ []
+  pub worker_is : number worker ≡ Some line.worker
+  pub moment_is : number moment ≡ Some line.now
+  pub tokens_are : number tokens ≡ Some line.amount
+  pub below : line.worker < workers
+  pub least : 1 ≤ line.amount
+
+-- lines from this number on: each has no words, or says the next of the takes
+abbrev pub SpellsLines : ℕ → ℕ → List ThrottleLine → List (List ℕ) → Type 0
+SpellsLines workers at items [] = items ≡ []
+SpellsLines workers at items (line ∷ rest) =
+    ((words line ≡ []) × SpellsLines workers (at + 1) items rest)
+    ⊎ ((item : ThrottleLine) × (more : List ThrottleLine) × (items ≡ item ∷ more) × (item.at ≡ at) × SpellsTake workers item (words line) × SpellsLines workers (at + 1) more rest)
+
+-- a text of takes: its lines say them, within both limits
+pub record SpellsTakes (workers burst : ℕ) (bytes : List ℕ) (items : List ThrottleLine) : Type 0 where
+  pub each : SpellsLines workers 1 items (lines bytes)
+  pub limit : length (lines bytes) ≤ 1000000
+  pub total : burst + sum_by (cost burst) items < 2 ^ 63

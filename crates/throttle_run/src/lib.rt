@@ -1,0 +1,22 @@
+//! Lines of takes go through a refilled bucket by workers, and come out with what each met.
+#![tactic(auto)]
+
+mod allowing;
+mod faults;
+mod gathering;
+mod lines;
+mod reading;
+mod telling;
+mod throttling;
+mod workers;
+
+pub use faults::ThrottleFault;
+pub use lines::ThrottleLine;
+pub use quota_bucket::{BucketBook, Taken};
+pub use reading::{fault_laws, read_lines};
+pub use throttling::{throttle, throttle_text};
+
+#[cfg(test)]
+mod run_tests;
+#[cfg(test)]
+mod tests;

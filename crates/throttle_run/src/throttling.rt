@@ -1,0 +1,204 @@
+//! Lines of takes go through a bucket.
+ghost use Rattle.std.specs.Prelude.{◌≡◌, ◌≤◌, All, IfOk, IfErr, None, length};
+ghost use Rattle.fn_model.specs.declared.TheConstants.{NO_CAP};
+ghost use Rattle.quota_bucket.specs.Faults.{bucket_fault};
+ghost use Rattle.quota_bucket.specs.Opened.{OpensWith, fresh_desks, IsNew};
+ghost use Rattle.throttle_run.specs.Lines.{AreSound, Fails, throttle_of};
+ghost use Rattle.throttle_run.specs.Throttled.{IsThrottled, IsBookOf, TellsThrottle, TellsText};
+ghost use Rattle.throttle_run.specs.Work.{Each, IsReady, IsDone, OpensFull};
+
+use crate::allowing::allowances;
+use crate::faults::ThrottleFault;
+use crate::gathering::{answers, leave};
+use crate::lines::ThrottleLine;
+use crate::reading::read_lines;
+use crate::telling::text_of;
+use crate::workers::{Worker, engage, worked};
+use quota_bucket::{Bucket, BucketBook, BucketDesk, BucketFault, Taken};
+use std::alloc::Global;
+use std::sync::Wait;
+use std::thread::Threads;
+use trace_text::NoMemory;
+
+// Opens a bucket with numbers at which nothing but memory can fail.
+fn open_full(
+    alloc: Global,
+    burst: u64,
+    rate: u64,
+    period: u64,
+    allowances: &[u64],
+) -> Result<(Bucket, Vec<BucketDesk>), NoMemory>
+    requires burst { (1 ≤ burst) × (burst ≤ NO_CAP) }
+    requires rate { 1 ≤ rate }
+    requires period { 1 ≤ period }
+    requires few { (1 ≤ length allowances.now) × (length allowances.now ≤ 64) }
+    requires sound { bucket_fault burst burst allowances.now ≡ None }
+    ensures bucket { IfOk result (λ r. OpensWith burst burst rate period 0 allowances.now r.0) }
+    ensures desks { IfOk result (λ r. r.1.items ≡ fresh_desks r.0) }
+    ensures new { IfOk result (λ r. All (IsNew r.0) r.1.items) }
+{
+    match Bucket::open(alloc, burst, burst, rate, period, 0, allowances) {
+        Ok(opened) => Ok(opened),
+        Err(BucketFault::NoMemory) => Err(NoMemory),
+        Err(_) => unreachable!(),
+    }
+}
+
+// The bucket, and its workers with their lines.
+fn make_ready(
+    alloc: Global,
+    lines: &[ThrottleLine],
+    workers: u32,
+    burst: u64,
+    rate: u64,
+    period: u64,
+) -> Result<(Bucket, Vec<Worker>), NoMemory>
+    requires workers { (1 ≤ workers) × (workers ≤ 64) }
+    requires burst { (1 ≤ burst) × (burst ≤ NO_CAP) }
+    requires rate { 1 ≤ rate }
+    requires period { 1 ≤ period }
+    requires sound { AreSound workers burst lines.now }
+    ensures opens { IfOk result (λ r. OpensFull workers burst rate period r.0) }
+    ensures count { IfOk result (λ r. length r.1.items ≡ workers) }
+    ensures ready { IfOk result (λ r. Each (IsReady r.0 lines.now) r.1.items) }
+{
+    let allowances = allowances(alloc, lines, workers, burst)?;
+    let (bucket, desks) = open_full(alloc, burst, rate, period, &allowances)?;
+    let all = engage(alloc, desks, lines)?;
+    Ok((bucket, all))
+}
+
+// Closes the bucket of workers that have made the takes of their lines.
+fn finish(
+    alloc: Global,
+    lines: &[ThrottleLine],
+    bucket: Bucket,
+    all: Vec<Worker>,
+    workers: u32,
+    burst: u64,
+    rate: u64,
+    period: u64,
+) -> Result<(Vec<Taken>, BucketBook), NoMemory>
+    requires sound { AreSound workers burst lines.now }
+    requires opens { OpensFull workers burst rate period bucket }
+    requires count { length all.items ≡ workers }
+    requires done { Each (IsDone bucket lines.now) all.items }
+    ensures throttled { IfOk result (λ r. IsThrottled workers burst rate period lines.now r.0.items r.1) }
+    ensures book { IfOk result (λ r. IsBookOf workers burst r.1) }
+{
+    let answers = answers(alloc, lines, &all)?;
+    let desks = leave(alloc, all)?;
+    Ok((answers, bucket.close(desks)))
+}
+
+/// Makes the takes of lines on a bucket that opens full at the moment 0, each worker its own lines, in order, and all workers at once: an answer for each line, and what the bucket was. Before and after each take its worker calls the closures, with its number and the line's place among all, from 0. It may wait.
+pub fn throttle<R: Threads + Wait + Sync, B: Fn(u32, u64) + Sync, A: Fn(u32, u64) + Sync>(
+    rt: &R,
+    alloc: Global,
+    lines: &[ThrottleLine],
+    workers: u32,
+    burst: u64,
+    rate: u64,
+    period: u64,
+    before: &B,
+    answered: &A,
+) -> Result<(Vec<Taken>, BucketBook), NoMemory>
+    requires before { B.IsAlwaysCallable before.now }
+    requires answered { A.IsAlwaysCallable answered.now }
+    requires workers { (1 ≤ workers) × (workers ≤ 64) }
+    requires burst { (1 ≤ burst) × (burst ≤ NO_CAP) }
+    requires rate { 1 ≤ rate }
+    requires period { 1 ≤ period }
+    requires sound { AreSound workers burst lines.now }
+    ensures throttled { IfOk result (λ r. IsThrottled workers burst rate period lines.now r.0.items r.1) }
+    ensures book { IfOk result (λ r. IsBookOf workers burst r.1) }
+{
+    let (bucket, all) = make_ready(alloc, lines, workers, burst, rate, period)?;
+    let all = worked(rt, &bucket, all, before, answered);
+    finish(alloc, lines, bucket, all, workers, burst, rate, period)
+}
+
+// The text of lines and their answers, and of what the bucket was.
+fn told(
+    alloc: Global,
+    lines: &[ThrottleLine],
+    answers: &[Taken],
+    book: &BucketBook,
+    workers: u32,
+    burst: u64,
+    rate: u64,
+    period: u64,
+) -> Result<Vec<u8>, NoMemory>
+    requires throttled { IsThrottled workers burst rate period lines.now answers.now book.now }
+    requires book { IsBookOf workers burst book.now }
+    ensures { IfOk result (λ text. TellsThrottle workers burst rate period lines.now text.items book.now) }
+{
+    let text = text_of(alloc, lines, answers, book.tick(), book.value())?;
+    Ok(text)
+}
+
+// Makes the takes of lines, and tells of them.
+fn serve<R: Threads + Wait + Sync, B: Fn(u32, u64) + Sync, A: Fn(u32, u64) + Sync>(
+    rt: &R,
+    alloc: Global,
+    lines: &[ThrottleLine],
+    workers: u32,
+    burst: u64,
+    rate: u64,
+    period: u64,
+    before: &B,
+    answered: &A,
+) -> Result<(Vec<u8>, BucketBook), NoMemory>
+    requires before { B.IsAlwaysCallable before.now }
+    requires answered { A.IsAlwaysCallable answered.now }
+    requires workers { (1 ≤ workers) × (workers ≤ 64) }
+    requires burst { (1 ≤ burst) × (burst ≤ NO_CAP) }
+    requires rate { 1 ≤ rate }
+    requires period { 1 ≤ period }
+    requires sound { AreSound workers burst lines.now }
+    ensures told { IfOk result (λ r. TellsThrottle workers burst rate period lines.now r.0.items r.1) }
+    ensures book { IfOk result (λ r. IsBookOf workers burst r.1) }
+{
+    let (answers, book) = throttle(
+        rt,
+        alloc,
+        lines,
+        workers,
+        burst,
+        rate,
+        period,
+        before,
+        answered,
+    )?;
+    let text = told(alloc, lines, &answers, &book, workers, burst, rate, period)?;
+    Ok((text, book))
+}
+
+/// Makes the takes that a text asks for, by so many workers at once, on a bucket of this burst, rate and period that opens full at the moment 0; and tells of them. Before and after the take of a line its worker calls the closures, with its number and the place of the line among the lines with words, from 0. It may wait.
+pub fn throttle_text<R: Threads + Wait + Sync, B: Fn(u32, u64) + Sync, A: Fn(u32, u64) + Sync>(
+    rt: &R,
+    alloc: Global,
+    bytes: &[u8],
+    workers: u32,
+    burst: u64,
+    rate: u64,
+    period: u64,
+    before: &B,
+    answered: &A,
+) -> Result<(Vec<u8>, BucketBook), ThrottleFault>
+    requires before { B.IsAlwaysCallable before.now }
+    requires answered { A.IsAlwaysCallable answered.now }
+    requires workers { (1 ≤ workers) × (workers ≤ 64) }
+    requires burst { (1 ≤ burst) × (burst ≤ NO_CAP) }
+    requires rate { 1 ≤ rate }
+    requires period { 1 ≤ period }
+    ensures told { IfOk result (λ r. TellsText workers burst rate period bytes.now r.0.items r.1) }
+    ensures faults { IfErr result (λ fault. Fails fault (throttle_of workers burst bytes.now)) }
+    ensures book { IfOk result (λ r. IsBookOf workers burst r.1) }
+{
+    let lines = read_lines(alloc, bytes, workers, burst)?;
+    match serve(rt, alloc, &lines, workers, burst, rate, period, before, answered) {
+        Ok(told) => Ok(told),
+        Err(_) => Err(ThrottleFault::NoMemory),
+    }
+}
