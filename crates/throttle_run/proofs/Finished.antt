@@ -1,14 +1,13 @@
 -- What the workers of a bucket have left, in its book.
-use Rattle.std.proofs.Common.{◌≡◌, ◌+◌, ◌/◌, ◌<◌, ◌≤◌, ◌^◌, ◌==◌, ℕ, zero, suc, List, [], ◌∷◌, ◌++◌, Some, length, map, take, get_or, slice_get, refl, sym, ap, ◌∙◌, subst, arith}
+use Rattle.std.proofs.Common.{◌≡◌, ◌+◌, ◌/◌, ◌<◌, ℕ, zero, suc, List, [], ◌∷◌, ◌++◌, Some, length, map, get_or, slice_get, refl, sym, ap, ◌∙◌, subst, arith}
 use Rattle.std.proofs.lemmas.List.{length-map, get_or-map}
 use Rattle.std.proofs.lemmas.Option.{slice_get-map, get_or_from_slice_get}
-use Rattle.std.specs.List.{All, sum_by}
+use Rattle.std.specs.List.{All}
 use Rattle.std.specs.Option.{option_map}
-use mathlib.Core.List.{IsPrefix}
 use Rattle.running.specs.Running.{numbers_from, upto}
 use Rattle.fn_model.specs.declared.Call.{Call}
 use Rattle.fn_model.specs.Calls.{own}
-use Rattle.fn_funnel.specs.Words.{past, mine, left}
+use Rattle.fn_funnel.specs.Words.{mine}
 use Rattle.tick_table.specs.declared.entry.Entry.{Entry}
 use Rattle.tick_table.specs.declared.entry.Start.{Start}
 use Rattle.tick_table.specs.Seen.{entries_of, entry}
@@ -86,10 +85,10 @@ module _ (workers most rate period : ℕ) (b : BucketView) (opens : OpensFull wo
       served_by = record {
         entries = has_entries ∙ told.entries ∙ ap (λ (log : List Entry). entries_of w log ++ map (λ (line : ThrottleLine). entry w (line.now / b.period)) (lines_in x.jobs)) one.new.no_entry;
         refilled = sym (
-          claims_stay w 0 x.desk.seat.log book.ticks.log has.log has_entries
-          ∙ subst (λ (n : ℕ). claims_of w n x.desk.seat.log ≡ claims_of w n one.first.seat.log ++ map (λ (t : Taken). t.refilled) (tolds x.jobs)) start_tick told.claims
-          ∙ ap (λ (log : List Entry). claims_of w 0 log ++ map (λ (t : Taken). t.refilled) (tolds x.jobs)) one.new.no_entry
-        );
+            claims_stay w 0 x.desk.seat.log book.ticks.log has.log has_entries
+            ∙ subst (λ (n : ℕ). claims_of w n x.desk.seat.log ≡ claims_of w n one.first.seat.log ++ map (λ (t : Taken). t.refilled) (tolds x.jobs)) start_tick told.claims
+            ∙ ap (λ (log : List Entry). claims_of w 0 log ++ map (λ (t : Taken). t.refilled) (tolds x.jobs)) one.new.no_entry
+            );
         calls = subst (λ (n : ℕ). own n (history book) ≡ mine x.desk.pass) (told.together.number ∙ told.number) has.calls ∙ told.calls
             ∙ ap (λ (cs : List Call). cs ++ calls_from (burst b) b.rate w (length cs) (lines_in x.jobs) (tolds x.jobs)) first_mine;
         met = subst (λ (cs : List Call). AreMet (burst b) b.rate w (length cs) (history book) (lines_in x.jobs) (tolds x.jobs)) first_mine (told.met (history book) has.past);

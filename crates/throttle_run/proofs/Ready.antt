@@ -1,25 +1,22 @@
 -- A bucket that has opened for lines, and its workers before and after their work.
-use Rattle.std.proofs.Common.{◌≡◌, ◌+◌, ◌<◌, ◌≤◌, ◌^◌, ◌==◌, Bool, false, ℕ, zero, suc, List, [], ◌∷◌, ◌++◌, None, length, map, get_or, sum, nat_le, nat_lt, if◌then◌else◌, Option, Some, refl, sym, ap, ◌∙◌, subst, arith}
+use Rattle.std.proofs.Common.{◌≡◌, ◌+◌, ◌<◌, ◌≤◌, ◌^◌, ◌==◌, Bool, false, ℕ, zero, suc, List, None, length, map, get_or, sum, nat_le, nat_lt, if◌then◌else◌, Some, refl, sym, ap, ◌∙◌, subst, arith}
 use Rattle.std.proofs.lemmas.Bool.Decides.{nat_tests}
 use Rattle.std.proofs.lemmas.List.{length-map, get_or-map}
 use Rattle.std.proofs.lemmas.List.Elements.{All-filter}
 use Rattle.std.specs.List.{All, sum_by}
-use Rattle.running.specs.Running.{numbers_from, upto}
+use Rattle.running.specs.Running.{numbers_from}
 use Rattle.fn_core.specs.declared.Start.{Start}
-use Rattle.fn_core.specs.Calls.{left_of}
-use Rattle.fn_funnel.specs.Shapes.{IsShapeFor}
 use Rattle.fn_funnel.specs.Words.{left}
-use Rattle.quota_bucket.specs.declared.faults.BucketFault.{BucketFault}
 use Rattle.quota_bucket.specs.declared.faults.BucketFault.TheVariants.{TooMuch, AboveCap}
 use Rattle.quota_bucket.specs.Faults.{bucket_fault}
-use Rattle.quota_bucket.specs.Seen.{BucketView, DeskView, Belongs, burst}
+use Rattle.quota_bucket.specs.Seen.{BucketView, DeskView, burst}
 use Rattle.quota_bucket.specs.Opened.{OpensWith, fresh_desk, fresh_desks, IsNew}
 use Rattle.tick_table.specs.declared.entry.Start.{Start as Ticks}
 use Rattle.throttle_run.specs.declared.lines.ThrottleLine.{ThrottleLine}
 use Rattle.throttle_run.specs.declared.workers.Worker.{Worker}
 use Rattle.throttle_run.specs.Lines.{cost, AreSound}
 use Rattle.throttle_run.specs.Throttled.{lines_of}
-use Rattle.throttle_run.specs.Work.{lines_in, desks_in, Each, IsDealt, MayWork, Worked, IsReady, IsDone, OpensFull}
+use Rattle.throttle_run.specs.Work.{lines_in, desks_in, Each, IsDealt, MayWork, Worked, IsReady, IsDone}
 
 -- with these allowances nothing but memory can fail
 pub no_fault : (workers burst : ℕ) (lines : List ThrottleLine) → AreSound workers burst lines → (all : List ℕ) → sum all ≡ sum_by (cost burst) lines → bucket_fault burst burst all ≡ None

@@ -7,7 +7,7 @@
 --     IsServed, IsThrottled      the answers to a worker's lines, and to all
 --     IsBookOf workers burst book      the bucket opened full, at the moment 0
 --     TellsThrottle, TellsText      the text of lines, and of what bytes say
-use Rattle.std.specs.Prelude.{◌≡◌, ⊤, ℕ, zero, suc, ◌+◌, ◌-◌, ◌*◌, ◌/◌, ◌<◌, ◌==◌, min, max, List, [], ◌∷◌, ◌++◌, length, map, filter, All, Ok, codes, decimal, if◌then◌else◌}
+use Rattle.std.specs.Prelude.{◌≡◌, ⊤, ℕ, zero, suc, ◌+◌, ◌-◌, ◌/◌, ◌<◌, ◌==◌, min, max, List, [], ◌∷◌, ◌++◌, length, map, filter, All, Ok, codes, decimal, if◌then◌else◌}
 use Rattle.std.specs.List.{zip}
 use Rattle.fn_model.specs.declared.Call.{Call}
 use Rattle.fn_model.specs.declared.Kind.{Kind}

@@ -3,7 +3,7 @@
 --     MayRun bucket desk lines, Ran bucket old jobs new      what a desk needs for its lines; it made the takes of the jobs
 --     IsReady, AreReady      a worker before its work, and all
 --     IsDone, AreDone      a worker after its work, and all
-use Rattle.std.specs.Prelude.{◌≡◌, ℕ, ◌<◌, ◌≤◌, List, [], ◌∷◌, ◌++◌, length, map, sum_by, All, slice_index_or}
+use Rattle.std.specs.Prelude.{◌≡◌, ℕ, ◌<◌, ◌≤◌, List, [], ◌∷◌, length, map, sum_by, All, slice_index_or}
 use Rattle.fn_funnel.specs.Words.{left}
 use Rattle.fn_funnel.specs.Shapes.{IsShapeFor}
 use Rattle.quota_bucket.specs.declared.desks.Taken.{Taken}

@@ -14,7 +14,7 @@ pub use faults::ThrottleFault;
 pub use lines::ThrottleLine;
 pub use quota_bucket::{BucketBook, Taken};
 pub use reading::{fault_laws, read_lines};
-pub use throttling::{throttle, throttle_text};
+pub use throttling::throttle_text;
 
 #[cfg(test)]
 mod run_tests;

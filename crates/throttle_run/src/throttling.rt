@@ -160,15 +160,7 @@ fn serve<R: Threads + Wait + Sync, B: Fn(u32, u64) + Sync, A: Fn(u32, u64) + Syn
     ensures book { IfOk result (λ r. IsBookOf workers burst r.1) }
 {
     let (answers, book) = throttle(
-        rt,
-        alloc,
-        lines,
-        workers,
-        burst,
-        rate,
-        period,
-        before,
-        answered,
+        rt, alloc, lines, workers, burst, rate, period, before, answered,
     )?;
     let text = told(alloc, lines, &answers, &book, workers, burst, rate, period)?;
     Ok((text, book))
@@ -197,7 +189,9 @@ pub fn throttle_text<R: Threads + Wait + Sync, B: Fn(u32, u64) + Sync, A: Fn(u32
     ensures book { IfOk result (λ r. IsBookOf workers burst r.1) }
 {
     let lines = read_lines(alloc, bytes, workers, burst)?;
-    match serve(rt, alloc, &lines, workers, burst, rate, period, before, answered) {
+    match serve(
+        rt, alloc, &lines, workers, burst, rate, period, before, answered,
+    ) {
         Ok(told) => Ok(told),
         Err(_) => Err(ThrottleFault::NoMemory),
     }

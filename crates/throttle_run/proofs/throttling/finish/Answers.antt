@@ -1,10 +1,9 @@
-use Rattle.std.proofs.Common.{◌≡◌, ◌<◌, ℕ, List, ap, sym, subst, ◌∙◌, length, arith, All}
+use Rattle.std.proofs.Common.{◌≡◌, ◌<◌, ℕ, List, sym, subst, length, All}
 use Rattle.quota_bucket.specs.Seen.{DeskView, Belongs, AreAll}
 use Rattle.quota_bucket.specs.Closed.{IsClosed}
-use Rattle.throttle_run.specs.declared.lines.ThrottleLine.{ThrottleLine}
 use Rattle.throttle_run.specs.declared.workers.Worker.{Worker}
 use Rattle.throttle_run.specs.Throttled.{answers_of}
-use Rattle.throttle_run.specs.Work.{tolds, jobs_of, desks_in}
+use Rattle.throttle_run.specs.Work.{tolds, jobs_of}
 use Rattle.throttle_run.proofs.Finished.{closes_together, closes_all, throttled}
 use Rattle.throttle_run.proofs.throttling.finish.Goals as goal
 

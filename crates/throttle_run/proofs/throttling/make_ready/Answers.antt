@@ -1,8 +1,5 @@
-use Rattle.std.proofs.Common.{◌≡◌, ◌<◌, ℕ, List, length, get_or, subst, sym}
-use Rattle.std.specs.List.{sum_by}
+use Rattle.std.proofs.Common.{ℕ, List, subst}
 use Rattle.quota_bucket.specs.Opened.{OpensWith}
-use Rattle.throttle_run.specs.Lines.{cost}
-use Rattle.throttle_run.specs.Throttled.{lines_of}
 use Rattle.throttle_run.proofs.Ready.{lines_there, count_workers, ready}
 use Rattle.throttle_run.proofs.throttling.make_ready.Goals as goal
 
