@@ -20,16 +20,7 @@ use Rattle.throttle_run.specs.Throttled.{lines_of, answers_of, calls_from, AreMe
 use Rattle.throttle_run.specs.Work.{lines_in, tolds, bare, desks_in, jobs_of, Each, IsDone, OpensFull}
 use Rattle.throttle_run.proofs.Served.{Told, told_by, claims_stay}
 
--- numbers that rise by one from a first
-pub rising : (xs : List ℕ) (from n : ℕ) → length xs ≡ n → ((k : ℕ) → k < n → get_or xs k 0 ≡ from + k) → xs ≡ numbers_from from n
-rising [] from zero size each = refl
-rising [] from (suc n) size each = absurd (omega arith)
-rising (x ∷ xs) from zero size each = absurd (omega arith)
-rising (x ∷ xs) from (suc n) size each =
-    let first : x ≡ from = (let at : x ≡ from + 0 = each 0 (omega arith) in omega (arith, at)) in
-    let rest = rising xs (suc from) n (omega (arith, size)) (λ k below. (let at : get_or xs k 0 ≡ from + suc k = each (suc k) (omega (arith, below)) in omega (arith, at))) in
-    λ i. first i ∷ rest i
-
+-- the element at a place that is there
 found_at : {A : Type 0} (xs : List A) (k : ℕ) → k < length xs → (x : A) × (slice_get xs k ≡ Some x)
 found_at [] k below = absurd (omega arith)
 found_at (x ∷ xs) zero below = (x, refl)
@@ -54,20 +45,18 @@ module _ (workers most rate period : ℕ) (b : BucketView) (opens : OpensFull wo
   pub closes_together : All (Belongs b) (desks_in all)
   closes_together = λ k d below. (let inside : k < length all = omega (arith, below, size) in subst (Belongs b) (sym (desk_at k d inside)) (told_at k (bare d) inside).1.together)
 
-  pub closes_all : AreAll b (desks_in all)
-  closes_all = all_numbers (desks_in all) refl
-    where
-      number_at : (xs : List Worker) (k : ℕ) → ((w : ℕ) (d : Worker) → w < length xs → (get_or xs w d).desk.seat.number ≡ k + w) → map (λ (d : DeskView). d.seat.number) (desks_in xs) ≡ numbers_from k (length xs)
-      number_at [] k each = refl
-      number_at (x ∷ xs) k each =
-          let first : x.desk.seat.number ≡ k = (let at : x.desk.seat.number ≡ k + 0 = each 0 x (omega arith) in omega (arith, at)) in
-          let rest = number_at xs (suc k) (λ w d below. (let at : (get_or xs w d).desk.seat.number ≡ k + suc w = each (suc w) d (omega (arith, below)) in omega (arith, at))) in
-          λ i. first i ∷ rest i
+  -- desks whose numbers rise by one
+  numbers_of : (xs : List Worker) (k : ℕ) → ((w : ℕ) (d : Worker) → w < length xs → (get_or xs w d).desk.seat.number ≡ k + w) → map (λ (d : DeskView). d.seat.number) (desks_in xs) ≡ numbers_from k (length xs)
+  numbers_of [] k each = refl
+  numbers_of (x ∷ xs) k each =
+      let first : x.desk.seat.number ≡ k = (let at : x.desk.seat.number ≡ k + 0 = each 0 x (omega arith) in omega (arith, at)) in
+      let rest = numbers_of xs (suc k) (λ w d below. (let at : (get_or xs w d).desk.seat.number ≡ k + suc w = each (suc w) d (omega (arith, below)) in omega (arith, at))) in
+      λ i. first i ∷ rest i
 
-      all_numbers : (ds : List DeskView) → ds ≡ desks_in all → map (λ (d : DeskView). d.seat.number) ds ≡ upto b.ticks.start.desks
-      all_numbers ds is =
-          let desks : b.ticks.start.desks ≡ length all = ap (λ (s : Start). s.desks) opens.ticks ∙ sym count in
-          ap (map (λ (d : DeskView). d.seat.number)) is ∙ number_at all 0 (λ w d below. (let at = (told_at w d below).1.number in omega (arith, at))) ∙ ap upto (sym desks)
+  pub closes_all : AreAll b (desks_in all)
+  closes_all =
+      let desks : b.ticks.start.desks ≡ length all = ap (λ (s : Start). s.desks) opens.ticks ∙ sym count in
+      numbers_of all 0 (λ w d below. (let at = (told_at w d below).1.number in omega (arith, at))) ∙ ap upto (sym desks)
 
   -- in the book
   module _ (book : BucketLog) (closed : IsClosed b (desks_in all) book) where

@@ -1,8 +1,11 @@
 -- What workers do with their lines.
 --     lines_in jobs, tolds jobs      the lines of jobs, and their answers
 --     MayRun bucket desk lines, Ran bucket old jobs new      what a desk needs for its lines; it made the takes of the jobs
---     IsReady, AreReady      a worker before its work, and all
---     IsDone, AreDone      a worker after its work, and all
+--     MayWork bucket worker, Worked bucket old new      the same of a worker
+--     bare desk, desks_in all, jobs_of all w, job_at jobs n      a worker without lines; the desks, and the jobs of one
+--     Each P all, IsDealt lines w worker      what holds of each worker by its number; it has the lines of its number
+--     IsReady bucket lines w worker, IsDone bucket lines w worker      a worker before its work, and after it
+--     OpensFull      a bucket that opened for lines
 use Rattle.std.specs.Prelude.{◌≡◌, ℕ, ◌<◌, ◌≤◌, List, [], ◌∷◌, length, map, sum_by, All, slice_index_or}
 use Rattle.fn_funnel.specs.Words.{left}
 use Rattle.fn_funnel.specs.Shapes.{IsShapeFor}
