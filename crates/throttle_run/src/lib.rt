@@ -7,7 +7,7 @@ mod reading;
 
 pub use faults::ThrottleFault;
 pub use lines::ThrottleLine;
-pub use reading::{fault_laws, read_lines};
+pub use reading::{read_lines, reading_laws};
 
 #[cfg(test)]
 mod tests;
