@@ -1,5 +1,5 @@
 -- What is read is in the grammar, and what is in the grammar is read.
-use Rattle.std.proofs.Common.{rules, tests, ◌≡◌, ℕ, ◌+◌, ◌<◌, ◌≤◌, ◌^◌, true, false, List, [], ◌∷◌, ◌++◌, length, Option, Some, None, Result, Ok, inl, inr, refl, sym, subst, ◌∙◌, arith}
+use Rattle.std.proofs.Common.{rules, tests, ◌≡◌, ℕ, ◌+◌, ◌<◌, ◌≤◌, ◌^◌, true, false, List, [], ◌∷◌, ◌++◌, length, Option, Some, None, Ok, inl, inr, refl, sym, arith}
 use Rattle.std.specs.Prelude.{nat_lt, option_to_list}
 use Rattle.std.specs.List.{AllByRecursion, sum_by}
 use Rattle.std.proofs.lemmas.List.Elements.{All-from_recursion}
@@ -8,8 +8,7 @@ use Rattle.trace_text.proofs.SoundLines.{bind_ok, guard_err, guard_ok, lt-false,
 use Rattle.trace_text.specs.Steps.{required}
 use Rattle.trace_text.specs.Text.{lines, number, words}
 use Rattle.throttle_run.specs.Grammar.{SpellsLines, SpellsTake, SpellsTakes, TakesAreRead}
-use Rattle.throttle_run.specs.Lines.{AreSound, Fails, amount_of, cost, line_of, lines_of, moment_of, take_of, throttle_of, total_with, within_limit, worker_of}
-use Rattle.throttle_run.specs.declared.faults.ThrottleFault.{ThrottleFault}
+use Rattle.throttle_run.specs.Lines.{AreSound, amount_of, cost, line_of, lines_of, moment_of, take_of, total_with, within_limit, worker_of}
 use Rattle.throttle_run.specs.declared.faults.ThrottleFault.TheVariants as fault
 use Rattle.throttle_run.specs.declared.lines.ThrottleLine.{ThrottleLine}
 use Rattle.throttle_run.specs.declared.reading.TheConstants.{MOST_LINES, MOST_TOTAL}
