@@ -3,6 +3,8 @@ ghost use Rattle.std.specs.Prelude.{◌≡◌, ◌≤◌, All, IfOk, IfErr, None
 ghost use Rattle.fn_model.specs.declared.TheConstants.{NO_CAP};
 ghost use Rattle.quota_bucket.specs.Faults.{bucket_fault};
 ghost use Rattle.quota_bucket.specs.Opened.{OpensWith, fresh_desks, IsNew};
+ghost use Rattle.trace_text.specs.Text.{lines};
+ghost use Rattle.throttle_run.specs.Faults.{IsRefusedFor};
 ghost use Rattle.throttle_run.specs.Lines.{AreSound, Fails, throttle_of};
 ghost use Rattle.throttle_run.specs.Throttled.{IsThrottled, IsBookOf, TellsThrottle, TellsText};
 ghost use Rattle.throttle_run.specs.Work.{Each, IsReady, IsDone, OpensFull};
@@ -185,6 +187,7 @@ pub fn throttle_text<R: Threads + Wait + Sync, B: Fn(u32, u64) + Sync, A: Fn(u32
     requires rate { 1 ≤ rate }
     requires period { 1 ≤ period }
     ensures told { IfOk result (λ r. TellsText workers burst rate period bytes.now r.0.items r.1) }
+    ensures first { IfErr result (λ fault. IsRefusedFor workers burst (lines bytes.now) fault) }
     ensures faults { IfErr result (λ fault. Fails fault (throttle_of workers burst bytes.now)) }
     ensures book { IfOk result (λ r. IsBookOf workers burst r.1) }
 {
