@@ -15,6 +15,7 @@ use Rattle.quota_bucket.specs.declared.desks.Taken.{Taken}
 use Rattle.quota_bucket.specs.Seen.{BucketView, DeskView, Belongs, AreAll, burst}
 use Rattle.quota_bucket.specs.Closed.{BucketLog, IsClosed, HasAll, history}
 use Rattle.throttle_run.specs.declared.lines.ThrottleLine.{ThrottleLine}
+use Rattle.throttle_run.specs.declared.throttling.Setting.{Setting}
 use Rattle.throttle_run.specs.declared.workers.Worker.{Worker}
 use Rattle.throttle_run.specs.Throttled.{lines_of, answers_of, calls_from, AreMet, claims_of, IsServed, IsThrottled}
 use Rattle.throttle_run.specs.Work.{lines_in, tolds, bare, desks_in, jobs_of, Each, IsDone, OpensFull}
@@ -26,7 +27,7 @@ found_at [] k below = absurd (omega arith)
 found_at (x ∷ xs) zero below = (x, refl)
 found_at (x ∷ xs) (suc k) below = found_at xs k (omega (arith, below))
 
-module _ (workers most rate period : ℕ) (b : BucketView) (opens : OpensFull workers most rate period b) (lines : List ThrottleLine) (all : List Worker) (count : length all ≡ workers) (done : Each (IsDone b lines) all) where
+module _ (s : Setting) (b : BucketView) (opens : OpensFull s b) (lines : List ThrottleLine) (all : List Worker) (count : length all ≡ s.workers) (done : Each (IsDone b lines) all) where
   full : b.funnel.start.opening ≡ burst b
   full = opens.opening ∙ sym opens.cap
 
@@ -55,7 +56,7 @@ module _ (workers most rate period : ℕ) (b : BucketView) (opens : OpensFull wo
 
   pub closes_all : AreAll b (desks_in all)
   closes_all =
-      let desks : b.ticks.start.desks ≡ length all = ap (λ (s : Start). s.desks) opens.ticks ∙ sym count in
+      let desks : b.ticks.start.desks ≡ length all = ap (λ (t : Start). t.desks) opens.ticks ∙ sym count in
       numbers_of all 0 (λ w d below. (let at = (told_at w d below).1.number in omega (arith, at))) ∙ ap upto (sym desks)
 
   -- in the book
@@ -68,7 +69,7 @@ module _ (workers most rate period : ℕ) (b : BucketView) (opens : OpensFull wo
       has_entries = subst (λ (n : ℕ). entries_of n book.ticks.log ≡ entries_of n x.desk.seat.log) told.number has.entries
 
       start_tick : b.ticks.start.tick ≡ 0
-      start_tick = ap (λ (s : Start). s.tick) opens.ticks
+      start_tick = ap (λ (t : Start). t.tick) opens.ticks
 
       pub served_by : IsServed (burst b) b.rate b.period w (lines_in x.jobs) (tolds x.jobs) book
       served_by = record {
@@ -84,7 +85,7 @@ module _ (workers most rate period : ℕ) (b : BucketView) (opens : OpensFull wo
       }
 
     module _ (answers : List Taken) (one_each : length answers ≡ length lines) (sorted : (w : ℕ) → w < length all → answers_of w lines answers ≡ tolds (jobs_of all w)) where
-      served_at : (w : ℕ) → w < workers → IsServed most rate period w (lines_of w lines) (answers_of w lines answers) book
+      served_at : (w : ℕ) → w < s.workers → IsServed s.burst s.rate s.period w (lines_of w lines) (answers_of w lines answers) book
       served_at w below =
           let inside : w < length all = omega (arith, below, count) in
           let at = found_at all w inside in
@@ -94,13 +95,13 @@ module _ (workers most rate period : ℕ) (b : BucketView) (opens : OpensFull wo
           let told = told_by b full w one.first x.jobs x.desk one.number one.new.together one.ran in
           let has : HasAll book x.desk = closed.each w x.desk (slice_get-map (λ (y : Worker). y.desk) all w ∙ ap (λ o. option_map (λ (y : Worker). y.desk) o) at.1) in
           let jobs : jobs_of all w ≡ x.jobs = get_or-map (λ (y : Worker). y.jobs) all w x [] inside ∙ ap (λ (y : Worker). y.jobs) is in
-          subst (λ (n : ℕ). IsServed n rate period w (lines_of w lines) (answers_of w lines answers) book) opens.cap
-          (subst (λ (n : ℕ). IsServed (burst b) n period w (lines_of w lines) (answers_of w lines answers) book) opens.has_rate
-          (subst (λ (n : ℕ). IsServed (burst b) b.rate n w (lines_of w lines) (answers_of w lines answers) book) opens.has_period
+          subst (λ (n : ℕ). IsServed n s.rate s.period w (lines_of w lines) (answers_of w lines answers) book) opens.cap
+          (subst (λ (n : ℕ). IsServed (burst b) n s.period w (lines_of w lines) (answers_of w lines answers) book) opens.rate
+          (subst (λ (n : ℕ). IsServed (burst b) b.rate n w (lines_of w lines) (answers_of w lines answers) book) opens.period
           (subst (λ (ls : List ThrottleLine). IsServed (burst b) b.rate b.period w ls (answers_of w lines answers) book) one.dealt
           (subst (λ (ts : List Taken). IsServed (burst b) b.rate b.period w (lines_in x.jobs) ts book) (sym (sorted w inside ∙ ap tolds jobs)) (served_by w x one told has)))))
 
-      pub throttled : IsThrottled workers most rate period lines answers book
+      pub throttled : IsThrottled s.workers s.burst s.rate s.period lines answers book
       throttled = record {
         one_each = one_each;
         served = served_at;
