@@ -1,16 +1,15 @@
 -- One more line that is dealt to its worker.
 use Rattle.std.proofs.Common.{◌≡◌, ◌≢◌, ◌+◌, ◌<◌, ◌≤◌, ◌==◌, ℕ, zero, suc, Bool, not, List, [], ◌∷◌, ◌++◌, length, take, set, map, get_or, cond, refl, sym, ap, ◌∙◌, subst, arith, inl, inr, eq-eqb, ne_eqb, append-nil, get_or-set_same, get_or-set_other}
 use Rattle.std.proofs.lemmas.Bool.{cases_eq}
-use Rattle.std.proofs.lemmas.List.{length-set, length-map, get_or_default, get_or-map, map-append}
+use Rattle.std.proofs.lemmas.List.{length-set, length-map, get_or-map, map-append}
 use Rattle.std.proofs.lemmas.List.Elements.{filter_more}
 use Rattle.std.proofs.lemmas.List.Filters.{length-filter_more, sum_by-filter_both}
-use Rattle.std.proofs.lemmas.List.Sums.{sum_by-take-le, sum_by-append, sum_by-cons, length-filter, count_by-le-length}
-use Rattle.std.specs.List.{All, sum_by}
+use Rattle.std.proofs.lemmas.List.Sums.{sum_by-take-le, length-filter, count_by-le-length}
+use Rattle.std.specs.List.{sum_by}
 use Rattle.quota_bucket.specs.Seen.{DeskView}
 use Rattle.throttle_run.specs.declared.lines.ThrottleLine.{ThrottleLine}
 use Rattle.throttle_run.specs.declared.workers.Job.{Job}
 use Rattle.throttle_run.specs.declared.workers.Worker.{Worker}
-use Rattle.throttle_run.specs.Lines.{cost}
 use Rattle.throttle_run.specs.Throttled.{lines_of}
 use Rattle.throttle_run.specs.Work.{lines_in, bare, desks_in, Each, IsDealt}
 

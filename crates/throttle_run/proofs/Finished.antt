@@ -1,14 +1,13 @@
 -- What the workers of a bucket have left, in its book.
-use Rattle.std.proofs.Common.{◌≡◌, ◌+◌, ◌/◌, ◌<◌, ◌≤◌, ◌^◌, ◌==◌, ℕ, zero, suc, List, [], ◌∷◌, ◌++◌, Some, length, map, take, get_or, slice_get, refl, sym, ap, ◌∙◌, subst, arith}
+use Rattle.std.proofs.Common.{◌≡◌, ◌+◌, ◌/◌, ◌<◌, ℕ, zero, suc, List, [], ◌∷◌, ◌++◌, Some, length, map, get_or, slice_get, refl, sym, ap, ◌∙◌, subst, arith}
 use Rattle.std.proofs.lemmas.List.{length-map, get_or-map}
 use Rattle.std.proofs.lemmas.Option.{slice_get-map, get_or_from_slice_get}
-use Rattle.std.specs.List.{All, sum_by}
+use Rattle.std.specs.List.{All}
 use Rattle.std.specs.Option.{option_map}
-use mathlib.Core.List.{IsPrefix}
 use Rattle.running.specs.Running.{numbers_from, upto}
 use Rattle.fn_model.specs.declared.Call.{Call}
 use Rattle.fn_model.specs.Calls.{own}
-use Rattle.fn_funnel.specs.Words.{past, mine, left}
+use Rattle.fn_funnel.specs.Words.{mine}
 use Rattle.tick_table.specs.declared.entry.Entry.{Entry}
 use Rattle.tick_table.specs.declared.entry.Start.{Start}
 use Rattle.tick_table.specs.Seen.{entries_of, entry}
@@ -16,27 +15,19 @@ use Rattle.quota_bucket.specs.declared.desks.Taken.{Taken}
 use Rattle.quota_bucket.specs.Seen.{BucketView, DeskView, Belongs, AreAll, burst}
 use Rattle.quota_bucket.specs.Closed.{BucketLog, IsClosed, HasAll, history}
 use Rattle.throttle_run.specs.declared.lines.ThrottleLine.{ThrottleLine}
+use Rattle.throttle_run.specs.declared.throttling.Setting.{Setting}
 use Rattle.throttle_run.specs.declared.workers.Worker.{Worker}
 use Rattle.throttle_run.specs.Throttled.{lines_of, answers_of, calls_from, AreMet, claims_of, IsServed, IsThrottled}
 use Rattle.throttle_run.specs.Work.{lines_in, tolds, bare, desks_in, jobs_of, Each, IsDone, OpensFull}
 use Rattle.throttle_run.proofs.Served.{Told, told_by, claims_stay}
 
--- numbers that rise by one from a first
-pub rising : (xs : List ℕ) (from n : ℕ) → length xs ≡ n → ((k : ℕ) → k < n → get_or xs k 0 ≡ from + k) → xs ≡ numbers_from from n
-rising [] from zero size each = refl
-rising [] from (suc n) size each = absurd (omega arith)
-rising (x ∷ xs) from zero size each = absurd (omega arith)
-rising (x ∷ xs) from (suc n) size each =
-    let first : x ≡ from = (let at : x ≡ from + 0 = each 0 (omega arith) in omega (arith, at)) in
-    let rest = rising xs (suc from) n (omega (arith, size)) (λ k below. (let at : get_or xs k 0 ≡ from + suc k = each (suc k) (omega (arith, below)) in omega (arith, at))) in
-    λ i. first i ∷ rest i
-
+-- the element at a place that is there
 found_at : {A : Type 0} (xs : List A) (k : ℕ) → k < length xs → (x : A) × (slice_get xs k ≡ Some x)
 found_at [] k below = absurd (omega arith)
 found_at (x ∷ xs) zero below = (x, refl)
 found_at (x ∷ xs) (suc k) below = found_at xs k (omega (arith, below))
 
-module _ (workers most rate period : ℕ) (b : BucketView) (opens : OpensFull workers most rate period b) (lines : List ThrottleLine) (all : List Worker) (count : length all ≡ workers) (done : Each (IsDone b lines) all) where
+module _ (s : Setting) (b : BucketView) (opens : OpensFull s b) (lines : List ThrottleLine) (all : List Worker) (count : length all ≡ s.workers) (done : Each (IsDone b lines) all) where
   full : b.funnel.start.opening ≡ burst b
   full = opens.opening ∙ sym opens.cap
 
@@ -55,20 +46,18 @@ module _ (workers most rate period : ℕ) (b : BucketView) (opens : OpensFull wo
   pub closes_together : All (Belongs b) (desks_in all)
   closes_together = λ k d below. (let inside : k < length all = omega (arith, below, size) in subst (Belongs b) (sym (desk_at k d inside)) (told_at k (bare d) inside).1.together)
 
-  pub closes_all : AreAll b (desks_in all)
-  closes_all = all_numbers (desks_in all) refl
-    where
-      number_at : (xs : List Worker) (k : ℕ) → ((w : ℕ) (d : Worker) → w < length xs → (get_or xs w d).desk.seat.number ≡ k + w) → map (λ (d : DeskView). d.seat.number) (desks_in xs) ≡ numbers_from k (length xs)
-      number_at [] k each = refl
-      number_at (x ∷ xs) k each =
-          let first : x.desk.seat.number ≡ k = (let at : x.desk.seat.number ≡ k + 0 = each 0 x (omega arith) in omega (arith, at)) in
-          let rest = number_at xs (suc k) (λ w d below. (let at : (get_or xs w d).desk.seat.number ≡ k + suc w = each (suc w) d (omega (arith, below)) in omega (arith, at))) in
-          λ i. first i ∷ rest i
+  -- desks whose numbers rise by one
+  numbers_of : (xs : List Worker) (k : ℕ) → ((w : ℕ) (d : Worker) → w < length xs → (get_or xs w d).desk.seat.number ≡ k + w) → map (λ (d : DeskView). d.seat.number) (desks_in xs) ≡ numbers_from k (length xs)
+  numbers_of [] k each = refl
+  numbers_of (x ∷ xs) k each =
+      let first : x.desk.seat.number ≡ k = (let at : x.desk.seat.number ≡ k + 0 = each 0 x (omega arith) in omega (arith, at)) in
+      let rest = numbers_of xs (suc k) (λ w d below. (let at : (get_or xs w d).desk.seat.number ≡ k + suc w = each (suc w) d (omega (arith, below)) in omega (arith, at))) in
+      λ i. first i ∷ rest i
 
-      all_numbers : (ds : List DeskView) → ds ≡ desks_in all → map (λ (d : DeskView). d.seat.number) ds ≡ upto b.ticks.start.desks
-      all_numbers ds is =
-          let desks : b.ticks.start.desks ≡ length all = ap (λ (s : Start). s.desks) opens.ticks ∙ sym count in
-          ap (map (λ (d : DeskView). d.seat.number)) is ∙ number_at all 0 (λ w d below. (let at = (told_at w d below).1.number in omega (arith, at))) ∙ ap upto (sym desks)
+  pub closes_all : AreAll b (desks_in all)
+  closes_all =
+      let desks : b.ticks.start.desks ≡ length all = ap (λ (t : Start). t.desks) opens.ticks ∙ sym count in
+      numbers_of all 0 (λ w d below. (let at = (told_at w d below).1.number in omega (arith, at))) ∙ ap upto (sym desks)
 
   -- in the book
   module _ (book : BucketLog) (closed : IsClosed b (desks_in all) book) where
@@ -80,23 +69,23 @@ module _ (workers most rate period : ℕ) (b : BucketView) (opens : OpensFull wo
       has_entries = subst (λ (n : ℕ). entries_of n book.ticks.log ≡ entries_of n x.desk.seat.log) told.number has.entries
 
       start_tick : b.ticks.start.tick ≡ 0
-      start_tick = ap (λ (s : Start). s.tick) opens.ticks
+      start_tick = ap (λ (t : Start). t.tick) opens.ticks
 
       pub served_by : IsServed (burst b) b.rate b.period w (lines_in x.jobs) (tolds x.jobs) book
       served_by = record {
         entries = has_entries ∙ told.entries ∙ ap (λ (log : List Entry). entries_of w log ++ map (λ (line : ThrottleLine). entry w (line.now / b.period)) (lines_in x.jobs)) one.new.no_entry;
         refilled = sym (
-          claims_stay w 0 x.desk.seat.log book.ticks.log has.log has_entries
-          ∙ subst (λ (n : ℕ). claims_of w n x.desk.seat.log ≡ claims_of w n one.first.seat.log ++ map (λ (t : Taken). t.refilled) (tolds x.jobs)) start_tick told.claims
-          ∙ ap (λ (log : List Entry). claims_of w 0 log ++ map (λ (t : Taken). t.refilled) (tolds x.jobs)) one.new.no_entry
-        );
+            claims_stay w 0 x.desk.seat.log book.ticks.log has.log has_entries
+            ∙ subst (λ (n : ℕ). claims_of w n x.desk.seat.log ≡ claims_of w n one.first.seat.log ++ map (λ (t : Taken). t.refilled) (tolds x.jobs)) start_tick told.claims
+            ∙ ap (λ (log : List Entry). claims_of w 0 log ++ map (λ (t : Taken). t.refilled) (tolds x.jobs)) one.new.no_entry
+            );
         calls = subst (λ (n : ℕ). own n (history book) ≡ mine x.desk.pass) (told.together.number ∙ told.number) has.calls ∙ told.calls
             ∙ ap (λ (cs : List Call). cs ++ calls_from (burst b) b.rate w (length cs) (lines_in x.jobs) (tolds x.jobs)) first_mine;
         met = subst (λ (cs : List Call). AreMet (burst b) b.rate w (length cs) (history book) (lines_in x.jobs) (tolds x.jobs)) first_mine (told.met (history book) has.past);
       }
 
     module _ (answers : List Taken) (one_each : length answers ≡ length lines) (sorted : (w : ℕ) → w < length all → answers_of w lines answers ≡ tolds (jobs_of all w)) where
-      served_at : (w : ℕ) → w < workers → IsServed most rate period w (lines_of w lines) (answers_of w lines answers) book
+      served_at : (w : ℕ) → w < s.workers → IsServed s.burst s.rate s.period w (lines_of w lines) (answers_of w lines answers) book
       served_at w below =
           let inside : w < length all = omega (arith, below, count) in
           let at = found_at all w inside in
@@ -106,13 +95,13 @@ module _ (workers most rate period : ℕ) (b : BucketView) (opens : OpensFull wo
           let told = told_by b full w one.first x.jobs x.desk one.number one.new.together one.ran in
           let has : HasAll book x.desk = closed.each w x.desk (slice_get-map (λ (y : Worker). y.desk) all w ∙ ap (λ o. option_map (λ (y : Worker). y.desk) o) at.1) in
           let jobs : jobs_of all w ≡ x.jobs = get_or-map (λ (y : Worker). y.jobs) all w x [] inside ∙ ap (λ (y : Worker). y.jobs) is in
-          subst (λ (n : ℕ). IsServed n rate period w (lines_of w lines) (answers_of w lines answers) book) opens.cap
-          (subst (λ (n : ℕ). IsServed (burst b) n period w (lines_of w lines) (answers_of w lines answers) book) opens.has_rate
-          (subst (λ (n : ℕ). IsServed (burst b) b.rate n w (lines_of w lines) (answers_of w lines answers) book) opens.has_period
+          subst (λ (n : ℕ). IsServed n s.rate s.period w (lines_of w lines) (answers_of w lines answers) book) opens.cap
+          (subst (λ (n : ℕ). IsServed (burst b) n s.period w (lines_of w lines) (answers_of w lines answers) book) opens.rate
+          (subst (λ (n : ℕ). IsServed (burst b) b.rate n w (lines_of w lines) (answers_of w lines answers) book) opens.period
           (subst (λ (ls : List ThrottleLine). IsServed (burst b) b.rate b.period w ls (answers_of w lines answers) book) one.dealt
           (subst (λ (ts : List Taken). IsServed (burst b) b.rate b.period w (lines_in x.jobs) ts book) (sym (sorted w inside ∙ ap tolds jobs)) (served_by w x one told has)))))
 
-      pub throttled : IsThrottled workers most rate period lines answers book
+      pub throttled : IsThrottled s.workers s.burst s.rate s.period lines answers book
       throttled = record {
         one_each = one_each;
         served = served_at;

@@ -1,16 +1,16 @@
 -- The answers of lines, and those of each worker among them.
-use Rattle.std.proofs.Common.{◌≡◌, ◌≢◌, ◌+◌, ◌<◌, ◌≤◌, ◌==◌, ℕ, zero, suc, Bool, cond, List, [], ◌∷◌, ◌++◌, length, map, filter, take, take_all, drop, set, get_or, refl, sym, ap, ◌∙◌, subst, arith, inl, inr, eq-eqb, ne_eqb, append-nil, get_or-set_same, get_or-set_other, length-append, append_assoc}
+use Rattle.std.proofs.Common.{◌≡◌, ◌≢◌, ◌+◌, ◌<◌, ◌≤◌, ◌==◌, ℕ, Bool, cond, List, [], ◌∷◌, ◌++◌, length, map, filter, take, take_all, drop, set, get_or, refl, sym, ap, ◌∙◌, subst, arith, inl, inr, eq-eqb, ne_eqb, append-nil, get_or-set_same, get_or-set_other, length-append, append_assoc}
 use Rattle.std.proofs.lemmas.Bool.{cases_eq}
 use Rattle.std.proofs.lemmas.List.{map-append, length-map, take_more, length-set, length-take-le, get_or_default, get_or-map, drop_more, drop_all}
 use Rattle.std.proofs.lemmas.List.Elements.{filter-append}
-use Rattle.std.specs.List.{All, zip}
+use Rattle.std.specs.List.{zip}
 use Rattle.quota_bucket.specs.declared.desks.Taken.{Taken}
 use Rattle.throttle_run.specs.declared.lines.ThrottleLine.{ThrottleLine}
 use Rattle.throttle_run.specs.declared.workers.Job.{Job}
 use Rattle.throttle_run.specs.declared.workers.Worker.{Worker}
 use Rattle.throttle_run.specs.Throttled.{lines_of, answers_of, line_text, lines_text}
 use Rattle.throttle_run.specs.Work.{lines_in, tolds, jobs_of, job_at, Each, IsDealt}
-use Rattle.throttle_run.proofs.Dealt.{no_line, own_more, other_more, own_count, own_within, own_most}
+use Rattle.throttle_run.proofs.Dealt.{no_line, other_more, own_count, own_within, own_most}
 
 abbrev is_of : ℕ → ThrottleLine × Taken → Bool
 is_of worker a = a.0.worker == worker

@@ -1,3 +1,4 @@
+pub mod ReadingAnswered
 pub mod ReadingFaults
 pub mod ReadingSpelled
 pub mod ReadingSteps

@@ -1,14 +1,14 @@
--- The fault that is found is the first.
-use Rattle.std.proofs.Common.{◌≡◌, ℕ, suc, ◌+◌, ◌<◌, ◌≤◌, true, List, [], ◌∷◌, ◌++◌, length, Option, Some, None, Result, Ok, Err, ◌⊎◌, inl, inr, refl, sym, ap, ◌∙◌, arith}
+-- The fault that is found is the first, and the first is found.
+use Rattle.std.proofs.Common.{◌≡◌, ℕ, suc, ◌+◌, ◌<◌, ◌≤◌, ◌^◌, true, List, [], ◌∷◌, ◌++◌, length, Option, Some, None, Result, Ok, Err, ◌⊎◌, inl, inr, refl, sym, ap, ◌∙◌, arith}
 use Rattle.std.specs.Prelude.{nat_lt, option_to_list}
 use Rattle.std.specs.List.{sum_by}
 use Rattle.std.proofs.lemmas.Bool.{cases_Bool}
 use Rattle.std.proofs.lemmas.List.Sums.{sum_by-cons}
-use Rattle.trace_text.proofs.SoundLines.{lt-true}
+use Rattle.trace_text.proofs.SoundLines.{bind_ok, lt-true}
 use Rattle.trace_text.specs.Steps.{◌>>=◌, fault_in}
 use Rattle.trace_text.specs.Text.{lines, number, words}
-use Rattle.throttle_run.proofs.ReadingSpelled.{total_with-none, total_with-some, within_limit-ok}
-use Rattle.throttle_run.specs.Faults.{FirstLineIsAtFault, IsAtFault, LineFaultsAreFirst, line_fault}
+use Rattle.throttle_run.proofs.ReadingSpelled.{line_of-from, line_of-is, lines_of-nothing, takes-read, takes-spelled, total_with-none, total_with-some, true-lt, within_limit-from, within_limit-ok}
+use Rattle.throttle_run.specs.Faults.{FirstFaultIsTold, IsAtFault, IsFirstFault, LineFaultsAreFirst, line_fault}
 use Rattle.throttle_run.specs.Lines.{amount_of, cost, line_of, lines_of, moment_of, take_of, total_with, within_limit, worker_of}
 use Rattle.throttle_run.specs.declared.faults.ThrottleFault.{ThrottleFault}
 use Rattle.throttle_run.specs.declared.faults.ThrottleFault.TheVariants as fault
@@ -83,7 +83,7 @@ total-fault workers burst at total line None found was within h = absurd (total_
 total-fault workers burst at total line (Some item) found was within h =
     let above = total_with-err burst at total item found h in
     let reached = above.0 in
-    inr (inr (item, was, within, omega arith, above.1))
+    inr (inr (item, line_of-is workers at (words line) item was, within, omega arith, above.1))
 
 -- what the lines so far come to with one more
 total-after : (burst at total sum : ℕ) (read : Option ThrottleLine) (items : List ThrottleLine) → total_with burst at total read ≡ Ok sum
@@ -99,10 +99,6 @@ lines_of-one : (workers burst at total : ℕ) (line : List ℕ) (rest : List (Li
     → lines_of workers burst at total (line ∷ rest) ≡ Ok (option_to_list read ++ more)
 unfolding lines_of
 lines_of-one workers burst at total line rest read u sum more was limit counted after = rw (was, limit, counted, after) refl
-
-lines_of-nothing : (workers burst at total : ℕ) → lines_of workers burst at total [] ≡ Ok []
-unfolding lines_of
-lines_of-nothing workers burst at total = refl
 
 -- where lines are refused
 abbrev StopsAt : ℕ → ℕ → ℕ → ℕ → List (List ℕ) → ThrottleFault → Type 0
@@ -154,5 +150,78 @@ stops-at workers burst at total (line ∷ rest) found h =
       ]
     ]
 
-pub first_line-at_fault : FirstLineIsAtFault
-first_line-at_fault workers burst bytes found h = stops-at workers burst 1 burst (lines bytes) found h
+-- the fault of a reading that was refused, and none of one that went on
+fault-err : {A : Type 0} (r : Result A ThrottleFault) (found : ThrottleFault) → fault_in r ≡ Some found → r ≡ Err found
+fault-err (Ok x) found h = cc
+fault-err (Err why) found h = cc
+
+fault-ok : {A : Type 0} (r : Result A ThrottleFault) → fault_in r ≡ None → (x : A) × (r ≡ Ok x)
+fault-ok (Ok x) h = (x, refl)
+fault-ok (Err why) h = cc
+
+within_limit-past : (at : ℕ) → MOST_LINES < at → within_limit at ≡ Err (fault.TooMany at)
+unfolding within_limit
+within_limit-past at past = let is : nat_lt MOST_LINES at ≡ true = true-lt MOST_LINES at past in rw is refl
+
+total_with-above : (burst at total : ℕ) (item : ThrottleLine) → MOST_TOTAL < total + cost burst item → total_with burst at total (Some item) ≡ Err (fault.Total at)
+unfolding total_with
+total_with-above burst at total item above =
+    let is : nat_lt MOST_TOTAL (total + cost burst item) ≡ true = true-lt MOST_TOTAL (total + cost burst item) above in
+    rw is refl
+
+-- a line at fault is refused
+refused-here : (workers burst at total : ℕ) (line : List ℕ) (rest : List (List ℕ)) (found : ThrottleFault) → IsAtFault workers burst at total line found
+    → lines_of workers burst at total (line ∷ rest) ≡ Err found
+unfolding lines_of
+refused-here workers burst at total line rest found (inl own) =
+    let is = fault-err (line_of workers at (words line)) found (line_faults-first workers at (words line) ∙ own) in
+    rw is refl
+refused-here workers burst at total line rest found (inr (inl past)) =
+    let read = fault-ok (line_of workers at (words line)) (line_faults-first workers at (words line) ∙ past.0) in
+    rw (read.1, within_limit-past at past.1, past.2) refl
+refused-here workers burst at total line rest found (inr (inr above)) =
+    let reached = above.3 in
+    rw (line_of-from workers at (words line) above.0 above.1, within_limit-from at above.2, total_with-above burst at total above.0 (omega arith), above.4) refl
+
+lines_of-err : (workers burst at total : ℕ) (line : List ℕ) (rest : List (List ℕ)) (read : Option ThrottleLine) (u : Unit {0}) (sum : ℕ) (found : ThrottleFault)
+    → line_of workers at (words line) ≡ Ok read → within_limit at ≡ Ok u → total_with burst at total read ≡ Ok sum → lines_of workers burst (at + 1) sum rest ≡ Err found
+    → lines_of workers burst at total (line ∷ rest) ≡ Err found
+unfolding lines_of
+lines_of-err workers burst at total line rest read u sum found was limit counted refused = rw (was, limit, counted, refused) refl
+
+-- a line that is refused after lines that were read
+refused-later : (workers burst at total : ℕ) (front : List (List ℕ)) (items : List ThrottleLine) (back : List (List ℕ)) (found : ThrottleFault)
+    → lines_of workers burst at total front ≡ Ok items → lines_of workers burst (at + length front) (total + sum_by (cost burst) items) back ≡ Err found
+    → lines_of workers burst at total (front ++ back) ≡ Err found
+unfolding lines_of
+refused-later workers burst at total [] items back found h later =
+    let same : items ≡ [] = cc in
+    let place : at + 0 ≡ at = omega arith in
+    let sum : total + 0 ≡ total = omega arith in
+    rw (same, place, sum) at later
+refused-later workers burst at total (line ∷ front) items back found h later =
+    let read = bind_ok (line_of workers at (words line)) _ items h in
+    let limit = bind_ok (within_limit at) _ items read.2 in
+    let sum = bind_ok (total_with burst at total read.0) _ items limit.2 in
+    let more = bind_ok (lines_of workers burst (at + 1) sum.0 front) _ items sum.2 in
+    let made = more.2 in
+    let same : items ≡ option_to_list read.0 ++ more.0 = cc in
+    let place : at + suc (length front) ≡ at + 1 + length front = omega arith in
+    let costs = total-after burst at total sum.0 read.0 more.0 sum.1 in
+    let there = rw (same, place, costs) at later in
+    let rest = refused-later workers burst (at + 1) sum.0 front more.0 back found more.1 there in
+    lines_of-err workers burst at total line (front ++ back) read.0 limit.0 sum.0 found read.1 limit.1 sum.1 rest
+
+-- the first fault is told
+pub first-found : (workers burst : ℕ) (text : List (List ℕ)) (found : ThrottleFault) → burst < 2 ^ 63 → lines_of workers burst 1 burst text ≡ Err found → IsFirstFault workers burst text found
+first-found workers burst text found small h =
+    let s = stops-at workers burst 1 burst text found h in
+    record { front = s.0; line = s.1; rest = s.2; items = s.3; whole = s.4; before = takes-spelled workers burst s.0 s.3 small s.5; at_fault = s.6 }
+
+first-told : (workers burst : ℕ) (text : List (List ℕ)) (found : ThrottleFault) → IsFirstFault workers burst text found → lines_of workers burst 1 burst text ≡ Err found
+first-told workers burst text found s =
+    rw s.whole (refused-later workers burst 1 burst s.front s.items (s.line ∷ s.rest) found (takes-read workers burst s.front s.items s.before)
+    (refused-here workers burst (1 + length s.front) (burst + sum_by (cost burst) s.items) s.line s.rest found s.at_fault))
+
+pub first_fault-told : FirstFaultIsTold
+first_fault-told workers burst bytes found small = (first-found workers burst (lines bytes) found small, first-told workers burst (lines bytes) found)

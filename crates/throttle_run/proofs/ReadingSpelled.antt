@@ -1,5 +1,5 @@
 -- What is read is in the grammar, and what is in the grammar is read.
-use Rattle.std.proofs.Common.{rules, tests, ◌≡◌, ℕ, ◌+◌, ◌<◌, ◌≤◌, true, false, List, [], ◌∷◌, ◌++◌, length, Option, Some, None, Result, Ok, inl, inr, refl, sym, subst, ◌∙◌, arith}
+use Rattle.std.proofs.Common.{rules, tests, ◌≡◌, ℕ, ◌+◌, ◌<◌, ◌≤◌, ◌^◌, true, false, List, [], ◌∷◌, ◌++◌, length, Option, Some, None, Ok, inl, inr, refl, sym, arith}
 use Rattle.std.specs.Prelude.{nat_lt, option_to_list}
 use Rattle.std.specs.List.{AllByRecursion, sum_by}
 use Rattle.std.proofs.lemmas.List.Elements.{All-from_recursion}
@@ -7,9 +7,8 @@ use Rattle.std.proofs.lemmas.List.Sums.{sum_by-cons}
 use Rattle.trace_text.proofs.SoundLines.{bind_ok, guard_err, guard_ok, lt-false, lt-true, required_ok}
 use Rattle.trace_text.specs.Steps.{required}
 use Rattle.trace_text.specs.Text.{lines, number, words}
-use Rattle.throttle_run.specs.Grammar.{SpellsLines, SpellsTake, SpellsTakes}
-use Rattle.throttle_run.specs.Lines.{AreSound, Fails, amount_of, cost, line_of, lines_of, moment_of, take_of, throttle_of, total_with, within_limit, worker_of}
-use Rattle.throttle_run.specs.declared.faults.ThrottleFault.{ThrottleFault}
+use Rattle.throttle_run.specs.Grammar.{SpellsLines, SpellsTake, SpellsTakes, TakesAreRead}
+use Rattle.throttle_run.specs.Lines.{AreSound, amount_of, cost, line_of, lines_of, moment_of, take_of, total_with, within_limit, worker_of}
 use Rattle.throttle_run.specs.declared.faults.ThrottleFault.TheVariants as fault
 use Rattle.throttle_run.specs.declared.lines.ThrottleLine.{ThrottleLine}
 use Rattle.throttle_run.specs.declared.reading.TheConstants.{MOST_LINES, MOST_TOTAL}
@@ -33,9 +32,9 @@ amount_of-is at word n h =
     let least = guard_ok (nat_lt 0 was.0) was.0 n (fault.Amount at) was.2 in
     rw (← least.1) (required_ok (fault.Amount at) (number word) was.0 was.1, lt-true 0 was.0 least.0)
 
--- a take that was read stands where it was read, and is spelled so
+-- a take that was read is spelled so
 take_of-is : (workers at : ℕ) (worker now amount : List ℕ) (line : ThrottleLine) → take_of workers at worker now amount ≡ Ok line
-    → (line.at ≡ at) × SpellsTake workers line (worker ∷ now ∷ amount ∷ [])
+    → SpellsTake workers at line (worker ∷ now ∷ amount ∷ [])
 unfolding take_of
 take_of-is workers at worker now amount line h =
     let who = bind_ok (worker_of workers at worker) _ line h in
@@ -45,22 +44,20 @@ take_of-is workers at worker now amount line h =
     let same : record { at = at; worker = who.0; now = moment.0; amount = tokens.0 } ≡ line = cc in
     let who_is = worker_of-is workers at worker who.0 who.1 in
     let tokens_are = amount_of-is at amount tokens.0 tokens.1 in
-    rw (← same) (
-      refl,
-      record {
-        worker = worker;
-        moment = now;
-        tokens = amount;
-        spelled = refl;
-        worker_is = who_is.0;
-        moment_is = moment_of-is at now moment.0 moment.1;
-        tokens_are = tokens_are.0;
-        below = who_is.1;
-        least = tokens_are.1;
-      },
-    )
+    rw (← same) (record {
+      worker = worker;
+      moment = now;
+      tokens = amount;
+      spelled = refl;
+      worker_is = who_is.0;
+      moment_is = moment_of-is at now moment.0 moment.1;
+      tokens_are = tokens_are.0;
+      below = who_is.1;
+      least = tokens_are.1;
+      place = refl;
+    })
 
-line_of-is : (workers at : ℕ) (all : List (List ℕ)) (line : ThrottleLine) → line_of workers at all ≡ Ok (Some line) → (line.at ≡ at) × SpellsTake workers line all
+pub line_of-is : (workers at : ℕ) (all : List (List ℕ)) (line : ThrottleLine) → line_of workers at all ≡ Ok (Some line) → SpellsTake workers at line all
 unfolding line_of
 line_of-is workers at [] line h = cc
 line_of-is workers at (worker ∷ []) line h = cc
@@ -82,7 +79,7 @@ line_of-blank workers at (worker ∷ now ∷ amount ∷ []) h =
 line_of-blank workers at (worker ∷ now ∷ amount ∷ next ∷ more) h = cc
 
 -- a take that is spelled so is read
-true-lt : (m n : ℕ) → m < n → nat_lt m n ≡ true
+pub true-lt : (m n : ℕ) → m < n → nat_lt m n ≡ true
 true-lt m n h = search (rules, tests)
 
 false-lt : (m n : ℕ) → n ≤ m → nat_lt m n ≡ false
@@ -100,11 +97,11 @@ amount_of-from : (at : ℕ) (word : List ℕ) (n : ℕ) → number word ≡ Some
 unfolding amount_of
 amount_of-from at word n is least = rw (is, true-lt 0 n least) refl
 
-line_of-from : (workers at : ℕ) (all : List (List ℕ)) (line : ThrottleLine) → line.at ≡ at → SpellsTake workers line all → line_of workers at all ≡ Ok (Some line)
+pub line_of-from : (workers at : ℕ) (all : List (List ℕ)) (line : ThrottleLine) → SpellsTake workers at line all → line_of workers at all ≡ Ok (Some line)
 unfolding line_of take_of
-line_of-from workers at all line place s =
+line_of-from workers at all line s =
     rw s.spelled (rw (worker_of-from workers at s.worker line.worker s.worker_is s.below, moment_of-from at s.moment line.now s.moment_is, amount_of-from at s.tokens line.amount s.tokens_are s.least)
-    (rw (← place) refl))
+    (rw (← s.place) refl))
 
 -- what the burst and all costs come to with a line
 pub total_with-none : (burst at total sum : ℕ) → total_with burst at total None ≡ Ok sum → sum ≡ total
@@ -128,7 +125,7 @@ pub within_limit-ok : (at : ℕ) (u : Unit {0}) → within_limit at ≡ Ok u →
 unfolding within_limit
 within_limit-ok at u h = lt-false MOST_LINES at (guard_err (nat_lt MOST_LINES at) tt u (fault.TooMany at) h).0
 
-within_limit-from : (at : ℕ) → at ≤ MOST_LINES → within_limit at ≡ Ok tt
+pub within_limit-from : (at : ℕ) → at ≤ MOST_LINES → within_limit at ≡ Ok tt
 unfolding within_limit
 within_limit-from at within = let below : nat_lt MOST_LINES at ≡ false = false-lt MOST_LINES at within in rw below refl
 
@@ -151,12 +148,11 @@ from-line workers burst at total sum line rest None more was counted s =
     let below = s.below in
     record { each = inl (line_of-blank workers at (words line) was, s.each); limit = omega arith; below = omega arith }
 from-line workers burst at total sum line rest (Some item) more was counted s =
-    let spelled = line_of-is workers at (words line) item was in
     let same = (total_with-some burst at total sum item counted).0 in
     let all = sum_by-cons (cost burst) item more in
     let limit = s.limit in
     let below = s.below in
-    record { each = inr (item, more, refl, spelled.0, spelled.1, s.each); limit = omega arith; below = omega arith }
+    record { each = inr (item, more, refl, line_of-is workers at (words line) item was, s.each); limit = omega arith; below = omega arith }
 
 -- the total after a line is within its limit
 total_with-below : (burst at total sum : ℕ) (read : Option ThrottleLine) → total ≤ MOST_TOTAL → total_with burst at total read ≡ Ok sum → sum ≤ MOST_TOTAL
@@ -180,7 +176,7 @@ lines_of-is workers burst at total (line ∷ rest) items within below h =
     rw (← same) (from-line workers burst at total sum.0 line rest read.0 more.0 read.1 sum.1 after)
 
 -- lines that are spelled so are read
-lines_of-nothing : (workers burst at total : ℕ) → lines_of workers burst at total [] ≡ Ok []
+pub lines_of-nothing : (workers burst at total : ℕ) → lines_of workers burst at total [] ≡ Ok []
 unfolding lines_of
 lines_of-nothing workers burst at total = refl
 
@@ -206,60 +202,42 @@ lines_of-from workers burst at total (line ∷ rest) items within below (inr s) 
     let more = s.1 in
     let all = sum_by-cons (cost burst) item more in
     let sum : total + (cost burst item + sum_by (cost burst) more) ≤ MOST_TOTAL = rw (s.2, all) at below in
-    rw s.2 (lines_of-item workers burst at total line rest item more (line_of-from workers at (words line) item s.3 s.4) (omega arith) (omega arith)
-    (lines_of-from workers burst (at + 1) (total + cost burst item) rest more (omega arith) (omega arith) s.5))
+    rw s.2 (lines_of-item workers burst at total line rest item more (line_of-from workers at (words line) item s.3) (omega arith) (omega arith)
+    (lines_of-from workers burst (at + 1) (total + cost burst item) rest more (omega arith) (omega arith) s.4))
 
 -- what is read is in the grammar
-pub takes-spelled : (workers burst : ℕ) (bytes : List ℕ) (items : List ThrottleLine) → burst ≤ MOST_TOTAL → throttle_of workers burst bytes ≡ Ok items → SpellsTakes workers burst bytes items
-takes-spelled workers burst bytes items small h =
-    let s = lines_of-is workers burst 1 burst (lines bytes) items (omega arith) small h in
+pub takes-spelled : (workers burst : ℕ) (text : List (List ℕ)) (items : List ThrottleLine) → burst < 2 ^ 63 → lines_of workers burst 1 burst text ≡ Ok items → SpellsTakes workers burst text items
+takes-spelled workers burst text items small h =
+    let s = lines_of-is workers burst 1 burst text items (omega arith) (omega arith) h in
     let limit = s.limit in
     let below = s.below in
     record { each = s.each; limit = omega arith; total = omega arith }
 
 -- what is in the grammar is read
-pub takes-read : (workers burst : ℕ) (bytes : List ℕ) (items : List ThrottleLine) → SpellsTakes workers burst bytes items → throttle_of workers burst bytes ≡ Ok items
-takes-read workers burst bytes items s =
+pub takes-read : (workers burst : ℕ) (text : List (List ℕ)) (items : List ThrottleLine) → SpellsTakes workers burst text items → lines_of workers burst 1 burst text ≡ Ok items
+takes-read workers burst text items s =
     let limit = s.limit in
     let total = s.total in
-    lines_of-from workers burst 1 burst (lines bytes) items (omega arith) (omega arith) s.each
+    lines_of-from workers burst 1 burst text items (omega arith) (omega arith) s.each
+
+pub takes-are_read : TakesAreRead
+takes-are_read workers burst bytes items small = (takes-spelled workers burst (lines bytes) items small, takes-read workers burst (lines bytes) items)
 
 -- lines in the grammar are sound
 spelled-workers : (workers at : ℕ) (items : List ThrottleLine) (text : List (List ℕ)) → SpellsLines workers at items text → AllByRecursion (λ line. line.worker < workers) items
 spelled-workers workers at items [] s = rw s tt
 spelled-workers workers at items (line ∷ rest) (inl s) = spelled-workers workers (at + 1) items rest s.1
-spelled-workers workers at items (line ∷ rest) (inr s) = rw s.2 (s.4.below, spelled-workers workers (at + 1) s.1 rest s.5)
+spelled-workers workers at items (line ∷ rest) (inr s) = rw s.2 (s.3.below, spelled-workers workers (at + 1) s.1 rest s.4)
 
 spelled-amounts : (workers at : ℕ) (items : List ThrottleLine) (text : List (List ℕ)) → SpellsLines workers at items text → AllByRecursion (λ line. 1 ≤ line.amount) items
 spelled-amounts workers at items [] s = rw s tt
 spelled-amounts workers at items (line ∷ rest) (inl s) = spelled-amounts workers (at + 1) items rest s.1
-spelled-amounts workers at items (line ∷ rest) (inr s) = rw s.2 (s.4.least, spelled-amounts workers (at + 1) s.1 rest s.5)
+spelled-amounts workers at items (line ∷ rest) (inr s) = rw s.2 (s.3.least, spelled-amounts workers (at + 1) s.1 rest s.4)
 
-pub takes-sound : (workers burst : ℕ) (bytes : List ℕ) (items : List ThrottleLine) → SpellsTakes workers burst bytes items → AreSound workers burst items
-takes-sound workers burst bytes items s =
+pub takes-sound : (workers burst : ℕ) (text : List (List ℕ)) (items : List ThrottleLine) → SpellsTakes workers burst text items → AreSound workers burst items
+takes-sound workers burst text items s =
     record {
-      workers_are = All-from_recursion _ items (spelled-workers workers 1 items (lines bytes) s.each);
-      amounts = All-from_recursion _ items (spelled-amounts workers 1 items (lines bytes) s.each);
+      workers_are = All-from_recursion _ items (spelled-workers workers 1 items text s.each);
+      amounts = All-from_recursion _ items (spelled-amounts workers 1 items text s.each);
       total = s.total;
     }
-
--- what is said of a text that was read
-pub record IsRead (workers burst : ℕ) (bytes : List ℕ) (items : List ThrottleLine) : Type 0 where
-  pub exact : throttle_of workers burst bytes ≡ Ok items
-  pub spelled : SpellsTakes workers burst bytes items
-  pub only : (others : List ThrottleLine) → SpellsTakes workers burst bytes others → ◌≡◌ {A = Result (List ThrottleLine) ThrottleFault} (Ok others) (Ok items)
-  pub sound : AreSound workers burst items
-
-pub is-read : (workers burst : ℕ) (bytes : List ℕ) (items : List ThrottleLine) → burst ≤ MOST_TOTAL → throttle_of workers burst bytes ≡ Ok items → IsRead workers burst bytes items
-is-read workers burst bytes items small is =
-    let spelled = takes-spelled workers burst bytes items small is in
-    record { exact = is; spelled = spelled; only = λ others s. sym (takes-read workers burst bytes others s) ∙ is; sound = takes-sound workers burst bytes items spelled }
-
--- what is said of a text that was refused
-pub record IsRefused (workers burst : ℕ) (bytes : List ℕ) (found : ThrottleFault) : Type 0 where
-  pub fails : Fails found (throttle_of workers burst bytes)
-  pub only : (others : List ThrottleLine) → SpellsTakes workers burst bytes others → Fails {Y = List ThrottleLine} found (Ok others)
-
-pub is-refused : (workers burst : ℕ) (bytes : List ℕ) (found : ThrottleFault) → Fails found (throttle_of workers burst bytes) → IsRefused workers burst bytes found
-is-refused workers burst bytes found fails =
-    record { fails = fails; only = λ others s. subst (λ (read : Result (List ThrottleLine) ThrottleFault). Fails found read) (takes-read workers burst bytes others s) fails }

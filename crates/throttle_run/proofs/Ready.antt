@@ -1,34 +1,20 @@
 -- A bucket that has opened for lines, and its workers before and after their work.
-use Rattle.std.proofs.Common.{◌≡◌, ◌+◌, ◌<◌, ◌≤◌, ◌^◌, ◌==◌, Bool, false, ℕ, zero, suc, List, [], ◌∷◌, ◌++◌, None, length, map, get_or, sum, nat_le, nat_lt, if◌then◌else◌, Option, Some, refl, sym, ap, ◌∙◌, subst, arith}
-use Rattle.std.proofs.lemmas.Bool.Decides.{nat_tests}
+use Rattle.std.proofs.Common.{◌≡◌, ◌+◌, ◌<◌, ◌≤◌, ◌==◌, ℕ, zero, suc, List, length, map, get_or, refl, sym, ap, ◌∙◌, subst, arith}
 use Rattle.std.proofs.lemmas.List.{length-map, get_or-map}
 use Rattle.std.proofs.lemmas.List.Elements.{All-filter}
 use Rattle.std.specs.List.{All, sum_by}
-use Rattle.running.specs.Running.{numbers_from, upto}
+use Rattle.running.specs.Running.{numbers_from}
 use Rattle.fn_core.specs.declared.Start.{Start}
-use Rattle.fn_core.specs.Calls.{left_of}
-use Rattle.fn_funnel.specs.Shapes.{IsShapeFor}
 use Rattle.fn_funnel.specs.Words.{left}
-use Rattle.quota_bucket.specs.declared.faults.BucketFault.{BucketFault}
-use Rattle.quota_bucket.specs.declared.faults.BucketFault.TheVariants.{TooMuch, AboveCap}
-use Rattle.quota_bucket.specs.Faults.{bucket_fault}
-use Rattle.quota_bucket.specs.Seen.{BucketView, DeskView, Belongs, burst}
+use Rattle.quota_bucket.specs.Seen.{BucketView, DeskView, burst}
 use Rattle.quota_bucket.specs.Opened.{OpensWith, fresh_desk, fresh_desks, IsNew}
 use Rattle.tick_table.specs.declared.entry.Start.{Start as Ticks}
 use Rattle.throttle_run.specs.declared.lines.ThrottleLine.{ThrottleLine}
+use Rattle.throttle_run.specs.declared.throttling.Setting.{Setting}
 use Rattle.throttle_run.specs.declared.workers.Worker.{Worker}
 use Rattle.throttle_run.specs.Lines.{cost, AreSound}
 use Rattle.throttle_run.specs.Throttled.{lines_of}
-use Rattle.throttle_run.specs.Work.{lines_in, desks_in, Each, IsDealt, MayWork, Worked, IsReady, IsDone, OpensFull}
-
--- with these allowances nothing but memory can fail
-pub no_fault : (workers burst : ℕ) (lines : List ThrottleLine) → AreSound workers burst lines → (all : List ℕ) → sum all ≡ sum_by (cost burst) lines → bucket_fault burst burst all ≡ None
-no_fault workers burst lines sound all total =
-    let below = sound.total in
-    let small : nat_le (2 ^ 63) (burst + sum all) ≡ false = (let less : burst + sum all < 2 ^ 63 = omega (arith, below, total) in grind (arith, nat_tests, less)) in
-    let full : nat_lt burst burst ≡ false = grind (arith, nat_tests) in
-    ap (λ (t : Bool). if t then Some (TooMuch burst (burst + sum all)) else (if nat_lt burst burst then Some (AboveCap burst burst) else None)) small
-    ∙ ap (λ (t : Bool). if t then Some (AboveCap burst burst) else None) full
+use Rattle.throttle_run.specs.Work.{lines_in, desks_in, Each, IsDealt, MayWork, Worked, IsReady, IsDone}
 
 -- the desk of a number
 fresh_at : (b : BucketView) (k n w : ℕ) (d : DeskView) → w < n → get_or (map (fresh_desk b) (numbers_from k n)) w d ≡ fresh_desk b (k + w)
@@ -40,25 +26,25 @@ length_fresh : (b : BucketView) (k n : ℕ) → length (map (fresh_desk b) (numb
 length_fresh b k zero = refl
 length_fresh b k (suc n) = ap suc (length_fresh b (suc k) n)
 
-module _ (workers most rate period : ℕ) (lines : List ThrottleLine) (sound : AreSound workers most lines) (allowed : List ℕ) (count : length allowed ≡ workers) (each : (w : ℕ) → w < workers → get_or allowed w 0 ≡ sum_by (cost most) (lines_of w lines))
-    (b : BucketView) (opens : OpensWith most most rate period 0 allowed b) (desks : List DeskView) (fresh : desks ≡ fresh_desks b) (new : All (IsNew b) desks) where
-  desks_count : b.ticks.start.desks ≡ workers
+module _ (s : Setting) (lines : List ThrottleLine) (sound : AreSound s.workers s.burst lines) (allowed : List ℕ) (count : length allowed ≡ s.workers) (each : (w : ℕ) → w < s.workers → get_or allowed w 0 ≡ sum_by (cost s.burst) (lines_of w lines))
+    (b : BucketView) (opens : OpensWith s.burst s.burst s.rate s.period 0 allowed b) (desks : List DeskView) (fresh : desks ≡ fresh_desks b) (new : All (IsNew b) desks) where
+  desks_count : b.ticks.start.desks ≡ s.workers
   desks_count = ap (λ (s : Ticks). s.desks) opens.has_ticks ∙ count
 
-  pub count_desks : length desks ≡ workers
+  pub count_desks : length desks ≡ s.workers
   count_desks = ap length fresh ∙ length_fresh b 0 b.ticks.start.desks ∙ desks_count
 
   pub lines_there : All (λ (line : ThrottleLine). line.worker < length desks) lines
   lines_there = subst (λ (n : ℕ). All (λ (line : ThrottleLine). line.worker < n) lines) (sym count_desks) sound.workers_are
 
   module _ (all : List Worker) (have : desks_in all ≡ desks) (dealt : Each (IsDealt lines) all) where
-    pub count_workers : length all ≡ workers
+    pub count_workers : length all ≡ s.workers
     count_workers = sym (length-map all (λ (x : Worker). x.desk)) ∙ ap length have ∙ count_desks
 
     pub ready : Each (IsReady b lines) all
     ready w d below =
         let x : Worker = get_or all w d in
-        let inside : w < workers = omega (arith, below, count_workers) in
+        let inside : w < s.workers = omega (arith, below, count_workers) in
         let at : get_or desks w d.desk ≡ x.desk = ap (λ (ds : List DeskView). get_or ds w d.desk) (sym have) ∙ get_or-map (λ (y : Worker). y.desk) all w d d.desk below in
         let is : x.desk ≡ fresh_desk b w = sym at ∙ ap (λ (ds : List DeskView). get_or ds w d.desk) fresh ∙ fresh_at b 0 b.ticks.start.desks w d.desk (omega (arith, inside, desks_count)) ∙ ap (fresh_desk b) (let e : 0 + w ≡ w = omega arith in e) in
         let number : x.desk.seat.number ≡ w = ap (λ (y : DeskView). y.seat.number) is in

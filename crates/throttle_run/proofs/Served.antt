@@ -1,19 +1,17 @@
 -- What a desk's takes come to, one after the other.
-use Rattle.std.proofs.Common.{◌≡◌, ◌≢◌, ℕ, zero, suc, ◌+◌, ◌-◌, ◌*◌, ◌/◌, ◌<◌, ◌≤◌, ◌==◌, min, max, Bool, List, [], ◌∷◌, ◌++◌, length, map, get_or, set, filter, cond, refl, sym, ap, ◌∙◌, subst, append_assoc, append-nil, arith, inl, inr, eq-eqb, ne_eqb, if◌then◌else◌}
+use Rattle.std.proofs.Common.{◌≡◌, ℕ, zero, suc, ◌+◌, ◌-◌, ◌/◌, ◌≤◌, ◌==◌, min, max, Bool, List, [], ◌∷◌, ◌++◌, length, map, get_or, set, cond, refl, sym, ap, ◌∙◌, subst, append_assoc, append-nil, arith, inl, inr, eq-eqb, ne_eqb, if◌then◌else◌}
 use Rattle.std.proofs.lemmas.Bool.{cases_eq}
 use Rattle.std.proofs.lemmas.List.{length-append}
 use Rattle.std.proofs.lemmas.List.Elements.{filter-append, All-head, All-tail}
 use Rattle.std.proofs.lemmas.List.Sums.{sum_by-cons}
-use Rattle.std.specs.List.{All, sum_by}
 use mathlib.Core.List.{IsPrefix}
 use Rattle.fn_model.specs.declared.Call.{Call}
-use Rattle.fn_model.specs.declared.Kind.TheVariants.{Sub}
 use Rattle.fn_model.specs.Integer.{Meets}
 use Rattle.fn_table.specs.Seen.{PassView}
 use Rattle.fn_funnel.specs.Words.{past, mine, left}
 use Rattle.tick_table.specs.declared.entry.Entry.{Entry}
 use Rattle.tick_table.specs.declared.entry.Start.{Start}
-use Rattle.tick_table.specs.Claims.{reach, between}
+use Rattle.tick_table.specs.Claims.{reach}
 use Rattle.tick_table.specs.Seen.{SeatView, entries_of, entry}
 use Rattle.tick_table.proofs.Claims.{between_length}
 use Rattle.quota_bucket.specs.declared.desks.Taken.{Taken}

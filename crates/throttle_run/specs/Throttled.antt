@@ -7,7 +7,7 @@
 --     IsServed, IsThrottled      the answers to a worker's lines, and to all
 --     IsBookOf workers burst book      the bucket opened full, at the moment 0
 --     TellsThrottle, TellsText      the text of lines, and of what bytes say
-use Rattle.std.specs.Prelude.{◌≡◌, ⊤, ℕ, zero, suc, ◌+◌, ◌-◌, ◌*◌, ◌/◌, ◌<◌, ◌==◌, min, max, List, [], ◌∷◌, ◌++◌, length, map, filter, All, Ok, codes, decimal, if◌then◌else◌}
+use Rattle.std.specs.Prelude.{◌≡◌, ⊤, ℕ, zero, suc, ◌+◌, ◌-◌, ◌/◌, ◌<◌, ◌==◌, min, max, List, [], ◌∷◌, ◌++◌, length, map, filter, All, Ok, codes, decimal, if◌then◌else◌}
 use Rattle.std.specs.List.{zip}
 use Rattle.fn_model.specs.declared.Call.{Call}
 use Rattle.fn_model.specs.declared.Kind.{Kind}
@@ -19,10 +19,12 @@ use Rattle.fn_funnel.specs.Shapes.{IsShapeFor}
 use Rattle.tick_table.specs.declared.entry.Entry.{Entry}
 use Rattle.tick_table.specs.Claims.{reach}
 use Rattle.tick_table.specs.Seen.{entries_of, entry}
+use Rattle.trace_text.specs.Text.{lines}
 use Rattle.quota_bucket.specs.declared.desks.Taken.{Taken}
 use Rattle.quota_bucket.specs.Closed.{BucketLog, history}
 use Rattle.quota_bucket.specs.Refill.{refill}
 use Rattle.throttle_run.specs.declared.lines.ThrottleLine.{ThrottleLine}
+use Rattle.throttle_run.specs.Grammar.{SpellsTakes}
 use Rattle.throttle_run.specs.Lines.{throttle_of}
 
 -- the lines of a worker, in order
@@ -115,8 +117,9 @@ pub record TellsThrottle (workers burst rate period : ℕ) (lines : List Throttl
   pub throttled : IsThrottled workers burst rate period lines answers book
   pub text : bytes ≡ lines_text lines answers ++ last_text (reach 0 book.ticks.log) (value burst burst (history book))
 
--- The text tells of the lines that the bytes say
+-- The text tells of the takes that the lines of the bytes say, which are what the bytes are read as
 pub record TellsText (workers burst rate period : ℕ) (bytes text : List ℕ) (book : BucketLog) : Type 0 where
-  pub lines : List ThrottleLine
-  pub read : throttle_of workers burst bytes ≡ Ok lines
-  pub told : TellsThrottle workers burst rate period lines text book
+  pub takes : List ThrottleLine
+  pub spelled : SpellsTakes workers burst (lines bytes) takes
+  pub read : throttle_of workers burst bytes ≡ Ok takes
+  pub told : TellsThrottle workers burst rate period takes text book

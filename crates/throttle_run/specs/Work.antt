@@ -1,9 +1,13 @@
 -- What workers do with their lines.
 --     lines_in jobs, tolds jobs      the lines of jobs, and their answers
 --     MayRun bucket desk lines, Ran bucket old jobs new      what a desk needs for its lines; it made the takes of the jobs
---     IsReady, AreReady      a worker before its work, and all
---     IsDone, AreDone      a worker after its work, and all
-use Rattle.std.specs.Prelude.{◌≡◌, ℕ, ◌<◌, ◌≤◌, List, [], ◌∷◌, ◌++◌, length, map, sum_by, All, slice_index_or}
+--     MayWork bucket worker, Worked bucket old new      the same of a worker
+--     bare desk, desks_in all, jobs_of all w, job_at jobs n      a worker without lines; the desks, and the jobs of one
+--     Each P all, IsDealt lines w worker      what holds of each worker by its number; it has the lines of its number
+--     IsReady bucket lines w worker, IsDone bucket lines w worker      a worker before its work, and after it
+--     IsSetting setting, OpensFull setting bucket      what is asked of a setting, and a bucket that opened as it says
+use Rattle.std.specs.Prelude.{◌≡◌, ℕ, ◌<◌, ◌≤◌, List, [], ◌∷◌, length, map, sum_by, All, slice_index_or}
+use Rattle.fn_model.specs.declared.TheConstants.{NO_CAP}
 use Rattle.fn_funnel.specs.Words.{left}
 use Rattle.fn_funnel.specs.Shapes.{IsShapeFor}
 use Rattle.quota_bucket.specs.declared.desks.Taken.{Taken}
@@ -11,6 +15,7 @@ use Rattle.quota_bucket.specs.Seen.{BucketView, DeskView, Belongs, burst}
 use Rattle.quota_bucket.specs.Opened.{IsNew}
 use Rattle.quota_bucket.specs.Taking.{Takes}
 use Rattle.throttle_run.specs.declared.lines.ThrottleLine.{ThrottleLine}
+use Rattle.throttle_run.specs.declared.throttling.Setting.{Setting}
 use Rattle.throttle_run.specs.declared.workers.Job.{Job}
 use Rattle.throttle_run.specs.declared.workers.Worker.{Worker}
 use Rattle.throttle_run.specs.Lines.{cost}
@@ -75,14 +80,21 @@ pub record IsReady (b : BucketView) (lines : List ThrottleLine) (w : ℕ) (worke
   pub dealt : IsDealt lines w worker
   pub may : MayWork b worker
 
--- A bucket that opened full at the moment 0
-pub record OpensFull (workers most rate period : ℕ) (b : BucketView) : Type 0 where
-  pub shape : IsShapeFor workers b.funnel.start.shape
-  pub opening : b.funnel.start.opening ≡ most
-  pub cap : b.funnel.start.cap ≡ most
-  pub ticks : b.ticks.start ≡ record { tick = 0; desks = workers }
-  pub has_rate : b.rate ≡ rate
-  pub has_period : b.period ≡ period
+-- What is asked of a setting: 1 to 64 workers, and a burst, a rate and a period of at least 1
+pub record IsSetting (s : Setting) : Type 0 where
+  pub workers : (1 ≤ s.workers) × (s.workers ≤ 64)
+  pub burst : (1 ≤ s.burst) × (s.burst ≤ NO_CAP)
+  pub rate : 1 ≤ s.rate
+  pub period : 1 ≤ s.period
+
+-- The bucket opened as the setting says, full at the moment 0
+pub record OpensFull (s : Setting) (b : BucketView) : Type 0 where
+  pub shape : IsShapeFor s.workers b.funnel.start.shape
+  pub opening : b.funnel.start.opening ≡ s.burst
+  pub cap : b.funnel.start.cap ≡ s.burst
+  pub ticks : b.ticks.start ≡ record { tick = 0; desks = s.workers }
+  pub rate : b.rate ≡ s.rate
+  pub period : b.period ≡ s.period
 
 -- the jobs of a worker
 abbrev pub jobs_of : List Worker → ℕ → List Job

@@ -12,9 +12,8 @@ mod workers;
 
 pub use faults::ThrottleFault;
 pub use lines::ThrottleLine;
-pub use quota_bucket::{BucketBook, Taken};
-pub use reading::{fault_laws, read_lines};
-pub use throttling::{throttle, throttle_text};
+pub use reading::{read_lines, reading_laws};
+pub use throttling::throttle_text;
 
 #[cfg(test)]
 mod run_tests;

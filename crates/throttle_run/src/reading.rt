@@ -1,9 +1,8 @@
 //! Reading a text of takes: line by line, up to the first fault.
-ghost use Rattle.std.specs.Prelude.{List, ◌≡◌, ◌≤◌, ◌++◌, Ok, IfOk, IfErr, OnOk, option_to_list};
-ghost use Rattle.trace_text.specs.Text.{words};
-ghost use Rattle.throttle_run.specs.Faults.{FirstLineIsAtFault, LineFaultsAreFirst};
-ghost use Rattle.throttle_run.specs.Grammar.{SpellsTakes};
-ghost use Rattle.throttle_run.specs.declared.lines.ThrottleLine.{ThrottleLine};
+ghost use Rattle.std.specs.Prelude.{◌≡◌, ◌≤◌, ◌++◌, Ok, IfOk, IfErr, OnOk, option_to_list};
+ghost use Rattle.trace_text.specs.Text.{lines, words};
+ghost use Rattle.throttle_run.specs.Faults.{FirstFaultIsTold, IsRefusedFor, LineFaultsAreFirst};
+ghost use Rattle.throttle_run.specs.Grammar.{SpellsTakes, TakesAreRead};
 ghost use Rattle.throttle_run.specs.Lines.{AreSound, Fails, Gives, amount_of, line_of, moment_of, take_of, throttle_of, total_with, within_limit, worker_of};
 
 use crate::faults::ThrottleFault;
@@ -26,11 +25,16 @@ pub fn read_lines(
     burst: u64,
 ) -> Result<Vec<ThrottleLine>, ThrottleFault>
     requires { burst ≤ MOST_TOTAL }
-    ensures lines { IfOk result (λ lines. throttle_of workers burst bytes.now ≡ Ok lines.items) }
+
+    // what the lines say, or why they are refused
+    ensures spelled { IfOk result (λ read. SpellsTakes workers burst (lines bytes.now) read.items) }
+    ensures first { IfErr result (λ fault. IsRefusedFor workers burst (lines bytes.now) fault) }
+
+    // the same as a function of the bytes
+    ensures lines { IfOk result (λ read. throttle_of workers burst bytes.now ≡ Ok read.items) }
     ensures faults { IfErr result (λ fault. Fails fault (throttle_of workers burst bytes.now)) }
-    ensures spelled { IfOk result (λ lines. SpellsTakes workers burst bytes.now lines.items) }
-    ensures only { (items : List ThrottleLine) → SpellsTakes workers burst bytes.now items → Gives (λ lines. lines.items) result (Ok items) }
-    ensures sound { IfOk result (λ lines. AreSound workers burst lines.items) }
+
+    ensures sound { IfOk result (λ read. AreSound workers burst read.items) }
 {
     let mut lines = Lines::new(bytes);
     let mut items = Vec::new(alloc);
@@ -45,11 +49,12 @@ pub fn read_lines(
     Ok(items)
 }
 
-/// A line that is refused is so for its first fault, and a text that is refused is so for the
-/// first of its lines that is at fault.
-pub fn fault_laws()
+/// A text is read as the takes that its lines say, or refused for the first fault of the first of
+/// its lines that is at fault.
+pub fn reading_laws()
+    ensures takes_are_read { TakesAreRead }
+    ensures first_fault_is_told { FirstFaultIsTold }
     ensures line_faults_are_first { LineFaultsAreFirst }
-    ensures first_line_is_at_fault { FirstLineIsAtFault }
 {}
 
 // Reads a line, which says nothing where it has no words.

@@ -11,17 +11,7 @@ fn text_of<R: Threads + Wait + Sync>(
     alloc: Global,
     bytes: &[u8],
 ) -> Result<Vec<u8>, ThrottleFault> {
-    let (text, _book) = throttle_text(
-        rt,
-        alloc,
-        bytes,
-        1,
-        10,
-        2,
-        5,
-        &|_, _| {},
-        &|_, _| {},
-    )?;
+    let (text, _book) = throttle_text(rt, alloc, bytes, 1, 10, 2, 5, &|_, _| {}, &|_, _| {})?;
     Ok(text)
 }
 

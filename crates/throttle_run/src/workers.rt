@@ -131,15 +131,7 @@ fn work_at<R: Wait, B: Fn(u32, u64), A: Fn(u32, u64)>(
 {
     let desk = &mut place.desk;
     let jobs = &mut place.jobs;
-    work(
-        rt,
-        bucket,
-        desk,
-        &mut jobs.items,
-        worker,
-        before,
-        answered,
-    );
+    work(rt, bucket, desk, &mut jobs.items, worker, before, answered);
 }
 
 // Makes the takes of all workers, at once.
@@ -165,16 +157,7 @@ fn work_all<R: Threads + Wait + Sync, B: Fn(u32, u64) + Sync, A: Fn(u32, u64) + 
             &|worker, place: &mut Worker|
                 requires { B.IsAlwaysCallable before.now × A.IsAlwaysCallable answered.now × (worker < 2 ^ 32) × MayWork bucket.now place.now }
                 ensures { Worked bucket.entry.now place.entry.now place.exit.now }
-            {
-                work_at(
-                    rt,
-                    bucket,
-                    place,
-                    worker as u32,
-                    before,
-                    answered,
-                )
-            },
+            { work_at(rt, bucket, place, worker as u32, before, answered) },
         );
     }
 }

@@ -1,9 +1,7 @@
-use Rattle.std.proofs.Common.{◌≡◌, ◌<◌, List, length, get_or, refl, sym, ap, ◌∙◌, subst, arith, take_all}
-use Rattle.quota_bucket.specs.declared.desks.Taken.{Taken}
+use Rattle.std.proofs.Common.{◌<◌, List, length, ap, ◌∙◌, subst, arith, take_all}
 use Rattle.throttle_run.specs.declared.lines.ThrottleLine.{ThrottleLine}
-use Rattle.throttle_run.specs.declared.workers.Worker.{Worker}
 use Rattle.throttle_run.proofs.Dealt.{no_line}
-use Rattle.throttle_run.proofs.Gathered.{HaveCome, none_come, place_is, few_before, job_left, come_more, all_come}
+use Rattle.throttle_run.proofs.Gathered.{HaveCome, place_is, few_before, job_left, come_more, all_come}
 use Rattle.throttle_run.proofs.gathering.answers.Goals as goal
 
 pub overflow_add-at : goal.overflow_add-at

@@ -1,29 +1,29 @@
-use Rattle.std.proofs.Common.{sym, ◌∙◌, rules}
+use Rattle.std.proofs.Common.{sym, ◌∙◌, rules, arith}
 use Rattle.std.proofs.lemmas.Result.{err_from_is_err_and}
-use Rattle.throttle_run.proofs.ReadingSpelled.{is-read, is-refused}
+use Rattle.throttle_run.proofs.ReadingAnswered.{is-read, is-refused}
 use Rattle.throttle_run.proofs.ReadingSteps.{lines_of-more, lines_of-refused, lines_of-past, lines_of-above, lines_of-none, Fails-from, Fails-through}
 use Rattle.throttle_run.proofs.reading.read_lines.Goals as goal
 
 pub returns-in_err-read : goal.returns-in_err-read
 returns-in_err-read c =
     let p = err_from_is_err_and c.from_residual.result c.from_residual.ensures.1 in
-    let refused = is-refused c.args.workers c.args.burst c.args.bytes.now c.in_err-read.field-0.0
+    let refused = is-refused c.args.workers c.args.burst c.args.bytes.now c.in_err-read.field-0.0 (omega arith)
     (Fails-from _ _ (sym c.loop-line.invariant.same ∙ rw c.in-Some.ensures (lines_of-refused _ _ _ _ _ _ _ _ (sym c.read_line.ensures ∙ c.in_err-read.was)))) in
-    rw (p.1, p.2) (record { lines = tt; faults = refused.fails; spelled = tt; only = refused.only; sound = tt })
+    rw (p.1, p.2) (record { spelled = tt; first = refused.first; lines = tt; faults = refused.fails; sound = tt })
 
 pub returns-in_err-check_limit : goal.returns-in_err-check_limit
 returns-in_err-check_limit c =
     let p = err_from_is_err_and c.from_residual-in_err-check_limit.result c.from_residual-in_err-check_limit.ensures.1 in
-    let refused = is-refused c.args.workers c.args.burst c.args.bytes.now c.in_err-check_limit.field-0.0
+    let refused = is-refused c.args.workers c.args.burst c.args.bytes.now c.in_err-check_limit.field-0.0 (omega arith)
     (Fails-from _ _ (sym c.loop-line.invariant.same ∙ rw c.in-Some.ensures (lines_of-past _ _ _ _ _ _ _ _ _ (sym c.read_line.ensures ∙ c.in_ok-read.was) (sym c.check_limit.ensures.exact ∙ c.in_err-check_limit.was)))) in
-    rw (p.1, p.2) (record { lines = tt; faults = refused.fails; spelled = tt; only = refused.only; sound = tt })
+    rw (p.1, p.2) (record { spelled = tt; first = refused.first; lines = tt; faults = refused.fails; sound = tt })
 
 pub returns-in_err-total : goal.returns-in_err-total
 returns-in_err-total c =
     let p = err_from_is_err_and c.from_residual-in_err-total.result c.from_residual-in_err-total.ensures.1 in
-    let refused = is-refused c.args.workers c.args.burst c.args.bytes.now c.in_err-total.field-0.0
+    let refused = is-refused c.args.workers c.args.burst c.args.bytes.now c.in_err-total.field-0.0 (omega arith)
     (Fails-through _ _ _ (λ counted. sym c.loop-line.invariant.same ∙ rw c.in-Some.ensures (lines_of-above _ _ _ _ _ _ _ _ _ (sym c.read_line.ensures ∙ c.in_ok-read.was) (sym c.check_limit.ensures.exact ∙ c.in_ok-check_limit.was) counted)) c.in_err-total.ensures.total) in
-    rw (p.1, p.2) (record { lines = tt; faults = refused.fails; spelled = tt; only = refused.only; sound = tt })
+    rw (p.1, p.2) (record { spelled = tt; first = refused.first; lines = tt; faults = refused.fails; sound = tt })
 
 pub loop-line-preserved : goal.loop-line-preserved
 loop-line-preserved c = record {
@@ -34,6 +34,6 @@ loop-line-preserved c = record {
 
 pub returns : goal.returns
 returns c =
-    let read = is-read c.args.workers c.args.burst c.args.bytes.now c.loop-line.items.items c.requires
+    let read = is-read c.args.workers c.args.burst c.args.bytes.now c.loop-line.items.items (omega arith)
     (sym c.loop-line.invariant.same ∙ rw c.in_default.ensures (lines_of-none _ _ _ _ _)) in
-    record { lines = read.exact; faults = tt; spelled = read.spelled; only = read.only; sound = read.sound }
+    record { spelled = read.spelled; first = tt; lines = read.exact; faults = tt; sound = read.sound }

@@ -1,8 +1,8 @@
-use Rattle.std.proofs.Common.{◌<◌, ◌++◌, ◌∷◌, [], List, length, get_or, refl, sym, ap, ◌∙◌, subst, arith, take_all}
+use Rattle.std.proofs.Common.{◌<◌, ◌++◌, ◌∷◌, [], List, length, get_or, sym, ap, ◌∙◌, subst, arith, take_all}
 use Rattle.std.proofs.lemmas.List.{length-map}
 use Rattle.throttle_run.specs.declared.lines.ThrottleLine.{ThrottleLine}
 use Rattle.throttle_run.specs.declared.workers.Worker.{Worker}
-use Rattle.throttle_run.specs.Work.{bare, desks_in, Each, IsDealt}
+use Rattle.throttle_run.specs.Work.{desks_in, Each, IsDealt}
 use Rattle.throttle_run.proofs.Dealt.{no_line, same_after, desks_of_bare, dealt_none, dealt_more}
 use Rattle.throttle_run.proofs.workers.engage.Goals as goal
 
