@@ -12,6 +12,7 @@ mod workers;
 
 pub use faults::ThrottleFault;
 pub use lines::ThrottleLine;
+pub use quota_bucket::BucketBook;
 pub use reading::{read_lines, reading_laws};
 pub use throttling::throttle_text;
 
