@@ -10,8 +10,9 @@ use Rattle.trace_text.specs.Text.{number, spelled_as}
 use Rattle.tool_words.specs.Words.{given, reads}
 use Rattle.tool_words.specs.declared.commands.Command.{Command}
 use Rattle.tool_words.specs.declared.commands.Command.TheVariants as command
+use Rattle.tool_words.specs.declared.reading.TheConstants.{MOST}
 use Rattle.tool_words.specs.declared.verbs.Verb.{Verb}
-use Rattle.tool_words.specs.declared.verbs.Verb.TheVariants.{Play, Trial, Replay, Drill, Relay, Rounds, Tally}
+use Rattle.tool_words.specs.declared.verbs.Verb.TheVariants.{Play, Trial, Replay, Drill, Relay, Rounds, Tally, Throttle}
 
 -- how a verb is written
 abbrev pub spelling : Verb → Text
@@ -22,10 +23,11 @@ spelling Drill = codes "drill"
 spelling Relay = codes "relay"
 spelling Rounds = codes "rounds"
 spelling Tally = codes "tally"
+spelling Throttle = codes "throttle"
 
 -- the verb that a word is
 unfoldable pub verb_of : Text → Option Verb
-verb_of word = spelled_as spelling word (Play ∷ Trial ∷ Replay ∷ Drill ∷ Relay ∷ Rounds ∷ Tally ∷ [])
+verb_of word = spelled_as spelling word (Play ∷ Trial ∷ Replay ∷ Drill ∷ Relay ∷ Rounds ∷ Tally ∷ Throttle ∷ [])
 
 -- how many words stand behind a verb
 abbrev pub count_of : Verb → ℕ
@@ -36,6 +38,7 @@ count_of Drill = 3
 count_of Relay = 2
 count_of Rounds = 0
 count_of Tally = 2
+count_of Throttle = 4
 
 -- the number that a word is, from low to high
 abbrev pub number_in : ℕ → ℕ → Option Text → Option ℕ
@@ -50,6 +53,7 @@ InRange (command.Drill seed rows workers) = (seed ≤ 1000000) × (1 ≤ rows) �
 InRange (command.Relay workers capacity) = (1 ≤ workers) × (workers ≤ 64) × (1 ≤ capacity) × (capacity ≤ 65536)
 InRange command.Rounds = Unit {0}
 InRange (command.Tally workers grain) = (1 ≤ workers) × (workers ≤ 64) × (1 ≤ grain) × (grain ≤ 1024)
+InRange (command.Throttle workers burst rate period) = (1 ≤ workers) × (workers ≤ 64) × (1 ≤ burst) × (burst ≤ MOST) × (1 ≤ rate) × (rate ≤ MOST) × (1 ≤ period) × (period ≤ MOST)
 
 -- what is made of such a number
 abbrev pub numbered : {A : Type 0} → ℕ → ℕ → Option Text → (ℕ → Option A) → Option A
@@ -71,6 +75,11 @@ command_as Rounds word = Some command.Rounds
 command_as Tally word =
     numbered 1 64 (word (codes "first")) (λ workers.
     numbered 1 1024 (word (codes "second")) (λ grain. Some (command.Tally workers grain)))
+command_as Throttle word =
+    numbered 1 64 (word (codes "first")) (λ workers.
+    numbered 1 MOST (word (codes "second")) (λ burst.
+    numbered 1 MOST (word (codes "third")) (λ rate.
+    numbered 1 MOST (word (codes "fourth")) (λ period. Some (command.Throttle workers burst rate period)))))
 
 -- the command of a verb, where the words behind the first are as many as it has
 abbrev pub with_verb : Verb → List (String Global) → Option Command

@@ -10,6 +10,9 @@ use clap::ArgMatches;
 use std::alloc::{AllocError, Global};
 use trace_text::number;
 
+/// The most that a burst, a rate or a period can be.
+pub const MOST: u64 = 9_223_372_036_854_775_807;
+
 /// The command that words ask for, if they do.
 #[tactic(auto, unfolding(crate::specs::Asked::asked))]
 pub fn read_command(alloc: Global, words: &[String]) -> Result<Option<Command>, AllocError>
@@ -70,6 +73,18 @@ fn command_as(verb: Verb, matches: &ArgMatches) -> Option<Command>
             let workers = number_in(matches, "first", 1, 64)? as u32;
             let grain = number_in(matches, "second", 1, 1024)?;
             Some(Command::Tally { workers, grain })
+        }
+        Verb::Throttle => {
+            let workers = number_in(matches, "first", 1, 64)? as u32;
+            let burst = number_in(matches, "second", 1, MOST)?;
+            let rate = number_in(matches, "third", 1, MOST)?;
+            let period = number_in(matches, "fourth", 1, MOST)?;
+            Some(Command::Throttle {
+                workers,
+                burst,
+                rate,
+                period,
+            })
         }
     }
 }

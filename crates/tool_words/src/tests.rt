@@ -1,4 +1,5 @@
 use super::*;
+use reading::MOST;
 use std::test::Fail;
 
 // Reads the words of a line.
@@ -28,6 +29,15 @@ fn relay(workers: u32, capacity: u32) -> Option<Command> {
 
 fn tally(workers: u32, grain: u64) -> Option<Command> {
     Some(Command::Tally { workers, grain })
+}
+
+fn throttle(workers: u32, burst: u64, rate: u64, period: u64) -> Option<Command> {
+    Some(Command::Throttle {
+        workers,
+        burst,
+        rate,
+        period,
+    })
 }
 
 #[test]
@@ -63,6 +73,26 @@ fn words_ask_for_commands(rt: HostRuntime) -> Result<(), Fail> {
         ("tally 64 1024", tally(64, 1024)),
         ("tally 1 1025", None),
         ("tally 1", None),
+        ("throttle 2 10 1 1000", throttle(2, 10, 1, 1000)),
+        (
+            "throttle 64 9223372036854775807 1 1",
+            throttle(64, MOST, 1, 1),
+        ),
+        (
+            "throttle 1 1 9223372036854775807 1",
+            throttle(1, 1, MOST, 1),
+        ),
+        (
+            "throttle 1 1 1 9223372036854775807",
+            throttle(1, 1, 1, MOST),
+        ),
+        ("throttle 1 0 1 1", None),
+        ("throttle 1 9223372036854775808 1 1", None),
+        ("throttle 65 1 1 1", None),
+        ("throttle 1 1 0 1", None),
+        ("throttle 1 1 1 0", None),
+        ("throttle 1 1 1", None),
+        ("throttle 1 1 1 1 1", None),
     ] {
         assert_eq!(rt; read(&rt, line)?, command);
     }

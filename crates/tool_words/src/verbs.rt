@@ -12,6 +12,7 @@ pub enum Verb {
     Relay,
     Rounds,
     Tally,
+    Throttle,
 }
 
 /// The verb that a word is.
@@ -27,6 +28,7 @@ pub fn verb_of(word: &str) -> Option<Verb>
         "relay" => Some(Verb::Relay),
         "rounds" => Some(Verb::Rounds),
         "tally" => Some(Verb::Tally),
+        "throttle" => Some(Verb::Throttle),
         _ => None,
     }
 }
@@ -41,5 +43,6 @@ pub fn count_of(verb: Verb) -> usize
         Verb::Replay => 1,
         Verb::Drill => 3,
         Verb::Relay | Verb::Tally => 2,
+        Verb::Throttle => 4,
     }
 }

@@ -1,6 +1,6 @@
-use Rattle.std.proofs.Common.{rules, ◌≡◌, ◌∙◌, sym}
+use Rattle.std.proofs.Common.{rules, ◌∙◌}
 use Rattle.clap.proofs.WalkLemmas.{first_value-rows}
-use Rattle.clap.specs.Words.{found_of, first_of, rows_of}
+use Rattle.clap.specs.Words.{found_of}
 use Rattle.tool_words.proofs.reading.number_in.Goals as goal
 
 pub returns-in_err-get_str-clause-exact : goal.returns-in_err-get_str-clause-exact

@@ -1,4 +1,4 @@
-use Rattle.std.proofs.Common.{◌≡◌, ◌∙◌, ap, length, sym}
+use Rattle.std.proofs.Common.{◌≡◌, ◌∙◌, ap, sym}
 use Rattle.std.proofs.lemmas.List.{take-map}
 use Rattle.clap.specs.Words.{app_of}
 use Rattle.tool_words.specs.Words.{command_of, command_with}
