@@ -71,7 +71,7 @@ module _ (s : Setting) (b : BucketView) (opens : OpensFull s b) (lines : List Th
       start_tick : b.ticks.start.tick ≡ 0
       start_tick = ap (λ (t : Start). t.tick) opens.ticks
 
-      pub served_by : IsServed (burst b) b.rate b.period w (lines_in x.jobs) (tolds x.jobs) book
+      pub served_by : IsServed (burst b) b.rate b.period w (lines_in x.jobs) (tolds x.jobs) (history book) book.ticks.log
       served_by = record {
         entries = has_entries ∙ told.entries ∙ ap (λ (log : List Entry). entries_of w log ++ map (λ (line : ThrottleLine). entry w (line.now / b.period)) (lines_in x.jobs)) one.new.no_entry;
         refilled = sym (
@@ -85,7 +85,7 @@ module _ (s : Setting) (b : BucketView) (opens : OpensFull s b) (lines : List Th
       }
 
     module _ (answers : List Taken) (one_each : length answers ≡ length lines) (sorted : (w : ℕ) → w < length all → answers_of w lines answers ≡ tolds (jobs_of all w)) where
-      served_at : (w : ℕ) → w < s.workers → IsServed s.burst s.rate s.period w (lines_of w lines) (answers_of w lines answers) book
+      served_at : (w : ℕ) → w < s.workers → IsServed s.burst s.rate s.period w (lines_of w lines) (answers_of w lines answers) (history book) book.ticks.log
       served_at w below =
           let inside : w < length all = omega (arith, below, count) in
           let at = found_at all w inside in
@@ -95,13 +95,13 @@ module _ (s : Setting) (b : BucketView) (opens : OpensFull s b) (lines : List Th
           let told = told_by b full w one.first x.jobs x.desk one.number one.new.together one.ran in
           let has : HasAll book x.desk = closed.each w x.desk (slice_get-map (λ (y : Worker). y.desk) all w ∙ ap (λ o. option_map (λ (y : Worker). y.desk) o) at.1) in
           let jobs : jobs_of all w ≡ x.jobs = get_or-map (λ (y : Worker). y.jobs) all w x [] inside ∙ ap (λ (y : Worker). y.jobs) is in
-          subst (λ (n : ℕ). IsServed n s.rate s.period w (lines_of w lines) (answers_of w lines answers) book) opens.cap
-          (subst (λ (n : ℕ). IsServed (burst b) n s.period w (lines_of w lines) (answers_of w lines answers) book) opens.rate
-          (subst (λ (n : ℕ). IsServed (burst b) b.rate n w (lines_of w lines) (answers_of w lines answers) book) opens.period
-          (subst (λ (ls : List ThrottleLine). IsServed (burst b) b.rate b.period w ls (answers_of w lines answers) book) one.dealt
-          (subst (λ (ts : List Taken). IsServed (burst b) b.rate b.period w (lines_in x.jobs) ts book) (sym (sorted w inside ∙ ap tolds jobs)) (served_by w x one told has)))))
+          subst (λ (n : ℕ). IsServed n s.rate s.period w (lines_of w lines) (answers_of w lines answers) (history book) book.ticks.log) opens.cap
+          (subst (λ (n : ℕ). IsServed (burst b) n s.period w (lines_of w lines) (answers_of w lines answers) (history book) book.ticks.log) opens.rate
+          (subst (λ (n : ℕ). IsServed (burst b) b.rate n w (lines_of w lines) (answers_of w lines answers) (history book) book.ticks.log) opens.period
+          (subst (λ (ls : List ThrottleLine). IsServed (burst b) b.rate b.period w ls (answers_of w lines answers) (history book) book.ticks.log) one.dealt
+          (subst (λ (ts : List Taken). IsServed (burst b) b.rate b.period w (lines_in x.jobs) ts (history book) book.ticks.log) (sym (sorted w inside ∙ ap tolds jobs)) (served_by w x one told has)))))
 
-      pub throttled : IsThrottled s.workers s.burst s.rate s.period lines answers book
+      pub throttled : IsThrottled s.workers s.burst s.rate s.period lines answers (history book) book.ticks.log
       throttled = record {
         one_each = one_each;
         served = served_at;

@@ -21,7 +21,7 @@ use Rattle.tick_table.specs.Claims.{reach}
 use Rattle.tick_table.specs.Seen.{entries_of, entry}
 use Rattle.trace_text.specs.Text.{lines}
 use Rattle.quota_bucket.specs.declared.desks.Taken.{Taken}
-use Rattle.quota_bucket.specs.Closed.{BucketLog, history}
+use Rattle.quota_bucket.specs.Closed.{BucketLog}
 use Rattle.quota_bucket.specs.Refill.{refill}
 use Rattle.throttle_run.specs.declared.lines.ThrottleLine.{ThrottleLine}
 use Rattle.throttle_run.specs.Grammar.{SpellsTakes}
@@ -70,21 +70,21 @@ abbrev pub claims_of : ℕ → ℕ → List Entry → List ℕ
 claims_of desk from [] = []
 claims_of desk from (e ∷ log) = (if e.desk == desk then (e.tick - from) ∷ [] else []) ++ claims_of desk (max from e.tick) log
 
--- What the book has of a worker, whose lines have these answers
-pub record IsServed (burst rate period worker : ℕ) (lines : List ThrottleLine) (answers : List Taken) (book : BucketLog) : Type 0 where
+-- What the history of the tokens and the log of the ticks have of a worker, whose lines have these answers
+pub record IsServed (burst rate period worker : ℕ) (lines : List ThrottleLine) (answers : List Taken) (tokens : List Call) (ticks : List Entry) : Type 0 where
   -- its entries are those of its lines, in order, each with the tick of its moment; and each line refills the ticks that its entry claims
-  pub entries : entries_of worker book.ticks.log ≡ map (λ line. entry worker (line.now / period)) lines
-  pub refilled : map (λ told. told.refilled) answers ≡ claims_of worker 0 book.ticks.log
+  pub entries : entries_of worker ticks ≡ map (λ line. entry worker (line.now / period)) lines
+  pub refilled : map (λ told. told.refilled) answers ≡ claims_of worker 0 ticks
   -- its calls are those of the takes of its lines, in order
-  pub calls : own worker (history book) ≡ calls_from burst rate worker 0 lines answers
-  pub met : AreMet burst rate worker 0 (history book) lines answers
+  pub calls : own worker tokens ≡ calls_from burst rate worker 0 lines answers
+  pub met : AreMet burst rate worker 0 tokens lines answers
 
 -- Lines and their answers: each worker was served its lines, in order, and there is no call and no entry but theirs
-pub record IsThrottled (workers burst rate period : ℕ) (lines : List ThrottleLine) (answers : List Taken) (book : BucketLog) : Type 0 where
+pub record IsThrottled (workers burst rate period : ℕ) (lines : List ThrottleLine) (answers : List Taken) (tokens : List Call) (ticks : List Entry) : Type 0 where
   pub one_each : length answers ≡ length lines
-  pub served : (worker : ℕ) → worker < workers → IsServed burst rate period worker (lines_of worker lines) (answers_of worker lines answers) book
-  pub callers : All (λ (call : Call). call.pass < workers) (history book)
-  pub enterers : All (λ (e : Entry). e.desk < workers) book.ticks.log
+  pub served : (worker : ℕ) → worker < workers → IsServed burst rate period worker (lines_of worker lines) (answers_of worker lines answers) tokens ticks
+  pub callers : All (λ (call : Call). call.pass < workers) tokens
+  pub enterers : All (λ (e : Entry). e.desk < workers) ticks
 
 -- The book's bucket opened full at the moment 0, with a desk for each worker, and each of its events was allowed
 pub record IsBookOf (workers burst : ℕ) (book : BucketLog) : Type 0 where
@@ -111,15 +111,15 @@ lines_text _ _ = []
 abbrev pub last_text : ℕ → ℕ → List ℕ
 last_text tick tokens = codes "tick " ++ decimal tick ++ codes " value " ++ decimal tokens ++ codes "\n"
 
--- The text tells of these lines with their answers by the book, and then of the book's last tick and value
-pub record TellsThrottle (workers burst rate period : ℕ) (lines : List ThrottleLine) (bytes : List ℕ) (book : BucketLog) : Type 0 where
+-- The text tells of these lines with their answers by the tokens' history and the ticks' log, and then of the last tick and of the tokens that are left
+pub record TellsThrottle (workers burst rate period : ℕ) (lines : List ThrottleLine) (bytes : List ℕ) (tokens : List Call) (ticks : List Entry) : Type 0 where
   pub answers : List Taken
-  pub throttled : IsThrottled workers burst rate period lines answers book
-  pub text : bytes ≡ lines_text lines answers ++ last_text (reach 0 book.ticks.log) (value burst burst (history book))
+  pub throttled : IsThrottled workers burst rate period lines answers tokens ticks
+  pub text : bytes ≡ lines_text lines answers ++ last_text (reach 0 ticks) (value burst burst tokens)
 
 -- The text tells of the takes that the lines of the bytes say, which are what the bytes are read as
-pub record TellsText (workers burst rate period : ℕ) (bytes text : List ℕ) (book : BucketLog) : Type 0 where
+pub record TellsText (workers burst rate period : ℕ) (bytes text : List ℕ) (tokens : List Call) (ticks : List Entry) : Type 0 where
   pub takes : List ThrottleLine
   pub spelled : SpellsTakes workers burst (lines bytes) takes
   pub read : throttle_of workers burst bytes ≡ Ok takes
-  pub told : TellsThrottle workers burst rate period takes text book
+  pub told : TellsThrottle workers burst rate period takes text tokens ticks

@@ -1,6 +1,7 @@
 //! Lines of takes go through a bucket.
 ghost use Rattle.std.specs.Prelude.{◌≡◌, ◌≤◌, All, IfOk, IfErr, None, length};
 ghost use Rattle.fn_model.specs.declared.TheConstants.{NO_CAP};
+ghost use Rattle.quota_bucket.specs.Closed.{history};
 ghost use Rattle.quota_bucket.specs.Faults.{bucket_fault};
 ghost use Rattle.quota_bucket.specs.Opened.{OpensWith, fresh_desks, IsNew};
 ghost use Rattle.trace_text.specs.Text.{lines};
@@ -87,7 +88,7 @@ fn finish(
     requires opens { OpensFull setting bucket }
     requires count { length all.items ≡ setting.workers }
     requires done { Each (IsDone bucket lines.now) all.items }
-    ensures throttled { IfOk result (λ r. IsThrottled setting.workers setting.burst setting.rate setting.period lines.now r.0.items r.1) }
+    ensures throttled { IfOk result (λ r. IsThrottled setting.workers setting.burst setting.rate setting.period lines.now r.0.items (history r.1) r.1.ticks.log) }
     ensures book { IfOk result (λ r. IsBookOf setting.workers setting.burst r.1) }
 {
     let answers = answers(alloc, lines, &all)?;
@@ -108,7 +109,7 @@ fn throttle<R: Threads + Wait + Sync, B: Fn(u32, u64) + Sync, A: Fn(u32, u64) + 
     requires answered { A.IsAlwaysCallable answered.now }
     requires setting { IsSetting setting }
     requires sound { AreSound setting.workers setting.burst lines.now }
-    ensures throttled { IfOk result (λ r. IsThrottled setting.workers setting.burst setting.rate setting.period lines.now r.0.items r.1) }
+    ensures throttled { IfOk result (λ r. IsThrottled setting.workers setting.burst setting.rate setting.period lines.now r.0.items (history r.1) r.1.ticks.log) }
     ensures book { IfOk result (λ r. IsBookOf setting.workers setting.burst r.1) }
 {
     let (bucket, all) = make_ready(alloc, lines, setting)?;
@@ -124,9 +125,9 @@ fn told(
     answers: &[Taken],
     book: &BucketBook,
 ) -> Result<Vec<u8>, NoMemory>
-    requires throttled { IsThrottled setting.workers setting.burst setting.rate setting.period lines.now answers.now book.now }
+    requires throttled { IsThrottled setting.workers setting.burst setting.rate setting.period lines.now answers.now (history book.now) book.now.ticks.log }
     requires book { IsBookOf setting.workers setting.burst book.now }
-    ensures { IfOk result (λ text. TellsThrottle setting.workers setting.burst setting.rate setting.period lines.now text.items book.now) }
+    ensures { IfOk result (λ text. TellsThrottle setting.workers setting.burst setting.rate setting.period lines.now text.items (history book.now) book.now.ticks.log) }
 {
     let text = text_of(alloc, lines, answers, book.tick(), book.value())?;
     Ok(text)
@@ -145,7 +146,7 @@ fn serve<R: Threads + Wait + Sync, B: Fn(u32, u64) + Sync, A: Fn(u32, u64) + Syn
     requires answered { A.IsAlwaysCallable answered.now }
     requires setting { IsSetting setting }
     requires sound { AreSound setting.workers setting.burst lines.now }
-    ensures told { IfOk result (λ r. TellsThrottle setting.workers setting.burst setting.rate setting.period lines.now r.0.items r.1) }
+    ensures told { IfOk result (λ r. TellsThrottle setting.workers setting.burst setting.rate setting.period lines.now r.0.items (history r.1) r.1.ticks.log) }
     ensures book { IfOk result (λ r. IsBookOf setting.workers setting.burst r.1) }
 {
     let (answers, book) = throttle(rt, alloc, lines, setting, before, answered)?;
@@ -171,7 +172,7 @@ pub fn throttle_text<R: Threads + Wait + Sync, B: Fn(u32, u64) + Sync, A: Fn(u32
     requires burst { (1 ≤ burst) × (burst ≤ NO_CAP) }
     requires rate { 1 ≤ rate }
     requires period { 1 ≤ period }
-    ensures told { IfOk result (λ r. TellsText workers burst rate period bytes.now r.0.items r.1) }
+    ensures told { IfOk result (λ r. TellsText workers burst rate period bytes.now r.0.items (history r.1) r.1.ticks.log) }
     ensures first { IfErr result (λ fault. IsRefusedFor workers burst (lines bytes.now) fault) }
     ensures faults { IfErr result (λ fault. Fails fault (throttle_of workers burst bytes.now)) }
     ensures book { IfOk result (λ r. IsBookOf workers burst r.1) }
