@@ -13,4 +13,6 @@ pub mod Finished
 pub mod Course
 pub mod Shifts
 pub mod Raised
-pub mod Joins
+pub mod Behind
+pub mod Lengths
+pub mod Claims

@@ -1,24 +1,22 @@
--- Calls whose numbers are raised: whose they are, what they leave, and where they stand in front of later calls.
-use Rattle.std.proofs.Common.{◌≡◌, ◌+◌, ◌<◌, ◌≤◌, ◌==◌, ◌&&◌, ℕ, suc, Bool, true, false, not, cond, List, [], ◌∷◌, ◌++◌, length, take, map, slice_get, Option, Some, None, nat_lt, refl, sym, ap, ◌∙◌, arith, inl, inr, All, ne_eqb}
+-- Calls whose numbers are raised: whose they are, what they leave, and where they stand.
+use Rattle.std.proofs.Common.{◌≡◌, ◌+◌, ◌<◌, ◌≤◌, ◌==◌, ◌&&◌, ℕ, suc, Bool, true, false, not, cond, List, [], ◌∷◌, ◌++◌, length, map, Some, None, nat_lt, refl, sym, ap, ◌∙◌, arith, inl, inr, All, ne_eqb}
 use Rattle.std.proofs.lemmas.Bool.{cases_eq, lt-ltb, ltb-true}
 use Rattle.std.proofs.lemmas.Bool.Decides.{nat_tests}
-use Rattle.std.proofs.lemmas.List.{length-map, length-append, take-map}
+use Rattle.std.proofs.lemmas.List.{length-map, length-append}
 use Rattle.std.proofs.lemmas.List.Elements.{All-head, All-tail, All-weaker, filter_passes}
 use Rattle.std.proofs.lemmas.List.Sums.{sum_by-cons}
-use Rattle.std.proofs.lemmas.Option.{cond_some, slice_get-map, slice_get-get_or}
+use Rattle.std.proofs.lemmas.Option.{cond_some}
 use Rattle.std.specs.List.{count_by, position_or_len}
-use Rattle.std.specs.Option.{option_map}
 use Rattle.fn_model.specs.declared.Call.{Call}
 use Rattle.fn_model.specs.Calls.{own, is_call, count, place}
-use Rattle.fn_model.specs.Integer.{after, value, before}
-use Rattle.fn_model.proofs.Calls.{reply_stays, first_beyond}
-use Rattle.fn_model.proofs.Integer.{value-append}
-use Rattle.fn_core.specs.declared.Start.{Start}
-use Rattle.fn_core.specs.Laws.{HasReply}
+use Rattle.fn_model.specs.Integer.{after, value}
+use Rattle.fn_model.proofs.Calls.{first_beyond}
 use Rattle.trace_text.specs.declared.traces.Row.{Row}
 use Rattle.replay_run.specs.Segments.{is_of, rows_of, call_of, calls_from}
-use Rattle.replay_run.specs.Joined.{raised}
-use Rattle.replay_run.proofs.Shifts.{get_first, get_later, take_later}
+
+-- a call whose number is raised by the calls that its pass has made before
+abbrev pub raised : (ℕ → ℕ) → Call → Call
+raised made call = record call { number = made call.pass + call.number }
 
 -- the calls of rows that are put together
 pub calls_append : (n : ℕ) (rows more : List Row) → calls_from n (rows ++ more) ≡ calls_from n rows ++ calls_from (n + length rows) more
@@ -64,7 +62,7 @@ pub no_call_past : (pass n number : ℕ) (calls : List Call) (rows : List Row) �
 no_call_past pass n number calls rows is past = count_own pass number calls ∙ ap (count_by (has_number number)) is ∙ none_past n number rows past
 
 -- a call's place behind calls that are others
-place_behind : (pass number : ℕ) (past more : List Call) (i : ℕ) → count pass number past ≡ 0 → place pass number more ≡ Some i → place pass number (past ++ more) ≡ Some (length past + i)
+pub place_behind : (pass number : ℕ) (past more : List Call) (i : ℕ) → count pass number past ≡ 0 → place pass number more ≡ Some i → place pass number (past ++ more) ≡ Some (length past + i)
 place_behind pass number past more i none is =
     let p : Call → Bool = is_call pass number in
     let first : ℕ = position_or_len p more in
@@ -73,21 +71,6 @@ place_behind pass number past more i none is =
     let within : first < length more = ltb-true first (length more) here.0 in
     let longer : length past + i < length (past ++ more) = omega (arith, length-append past more, here.1, within) in
     ap (λ (n : ℕ). cond (nat_lt n (length (past ++ more))) (Some n) None) at ∙ ap (λ (b : Bool). cond b (Some (length past + i)) None) (lt-ltb (length past + i) (length (past ++ more)) longer)
-
--- a call stands in a history, in a place of its own, and meets this number there
-abbrev pub Meets : ℕ → ℕ → List Call → Call → ℕ → Type 0
-Meets cap opening history call n = (i : ℕ) × (slice_get history i ≡ Some call) × (place call.pass call.number history ≡ Some i) × (n ≡ before cap opening history i)
-
--- what it meets among later calls it meets behind earlier ones, where none of these is that call
-pub meets_behind : (cap opening : ℕ) (past more : List Call) (call : Call) (n : ℕ) → count call.pass call.number past ≡ 0 → Meets cap (value cap opening past) more call n → Meets cap opening (past ++ more) call n
-meets_behind cap opening past more call n none meets =
-    let i : ℕ = meets.0 in
-    let k : ℕ = length past + i in (
-      k,
-      get_later past more i k refl ∙ meets.1,
-      place_behind call.pass call.number past more i none meets.2,
-      meets.3 ∙ sym (ap (value cap opening) (take_later past more i k refl) ∙ value-append cap opening past (take i more)),
-    )
 
 module _ (made : ℕ → ℕ) where
   -- they leave the same integer
@@ -134,20 +117,7 @@ module _ (made : ℕ → ℕ) where
       ∙ ap (λ (n : ℕ). cond (not (is_call pass number call)) (1 + n) 0) (first-raised pass number calls)
 
   -- a raised call stands where the call stood
-  place-raised : (pass number : ℕ) (calls : List Call) → place pass (made pass + number) (map (raised made) calls) ≡ place pass number calls
+  pub place-raised : (pass number : ℕ) (calls : List Call) → place pass (made pass + number) (map (raised made) calls) ≡ place pass number calls
   place-raised pass number calls =
       let first : ℕ = position_or_len (is_call pass (made pass + number)) (map (raised made) calls) in
       ap (λ (size : ℕ). cond (nat_lt first size) (Some first) None) (length-map calls (raised made)) ∙ ap (λ (n : ℕ). cond (nat_lt n (length calls)) (Some n) None) (first-raised pass number calls)
-
-  -- and meets what the call met, in front of later calls too
-  pub meets_raised : (start : Start) (calls later : List Call) (call : Call) (n : ℕ) → HasReply start calls call n → Meets start.cap start.opening (map (raised made) calls ++ later) (raised made call) n
-  meets_raised start calls later call n has =
-      let past : List Call = map (raised made) calls in
-      let i : ℕ = has.0 in
-      let within : i < length past = omega (arith, has.2, length-map calls (raised made)) in
-      let stays = reply_stays start.cap start.opening call.pass (made call.pass + call.number) past later i (place-raised call.pass call.number calls ∙ has.1) in (
-        i,
-        get_first past later i within ∙ slice_get-map (raised made) calls i ∙ ap (λ (o : Option Call). option_map (raised made) o) (slice_get-get_or calls i call has.2 ∙ ap Some has.3),
-        stays.0,
-        sym (stays.1 ∙ ap (value start.cap start.opening) (take-map (raised made) i calls) ∙ value-raised start.cap start.opening (take i calls) ∙ has.4),
-      )

@@ -15,7 +15,6 @@ use Rattle.fn_model.specs.Calls.{own}
 use Rattle.fn_model.proofs.Calls.{reply_stays}
 use Rattle.fn_core.specs.declared.Event.{Event}
 use Rattle.fn_core.specs.declared.Start.{Start}
-use Rattle.fn_core.specs.State.{opened}
 use Rattle.fn_core.specs.Laws.{HasReply}
 use Rattle.fn_core.specs.Calls.{CoreLog, calls_in, IsLegal}
 use Rattle.fn_core.proofs.Orders.{histories_go_on}

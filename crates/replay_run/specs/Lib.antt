@@ -1,6 +1,6 @@
 pub mod Segments
 pub mod Replay
-pub mod Joined
+pub mod Claim
 pub mod Work
 pub mod Ready
 pub mod Course

@@ -3,7 +3,6 @@
 
 mod gates;
 mod gathering;
-mod joining;
 mod places;
 mod planning;
 mod replaying;
@@ -12,7 +11,6 @@ mod working;
 
 pub use fn_funnel::Book;
 pub use gates::{Gate, OpenGate};
-pub use joining::segments_are_joined;
 pub use quota_pool::{Blocked, Moved, Way};
 pub use replaying::{Replayed, replay};
 pub use trace_text::{Cut, Name, NoMemory, Op, Row, Tenant, Trace};

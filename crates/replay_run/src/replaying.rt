@@ -3,6 +3,7 @@ ghost use Rattle.std.specs.Prelude.{◌≡◌, ◌+◌, ◌-◌, ◌≤◌, ◌+
 ghost use Rattle.std.specs.Vec.{vec_capacity};
 ghost use Rattle.trace_text.specs.Trace.{content};
 ghost use Rattle.trace_text.specs.SoundTrace.{IsSoundTrace};
+ghost use Rattle.replay_run.specs.Claim.{TellsReplay};
 ghost use Rattle.replay_run.specs.Replay.{IsReplay, value_in};
 ghost use Rattle.replay_run.specs.Ready.{IsSoundSegment};
 ghost use Rattle.replay_run.specs.Course.{GoesOn};
@@ -91,7 +92,7 @@ fn go_on<R: Threads + Wait + Sync, G: Gate + Sync>(
     Ok(())
 }
 
-/// Replays a trace by so many workers, all at once, who wait for each other at each cut. A worker makes the calls of its rows in order, each on its own desk, and asks the gate before and after each.
+/// Replays a trace by so many workers, all at once, who wait for each other at each cut. A worker makes the calls of its rows in order, each on its own desk, and asks the gate before and after each. Of each tenant there is then one history, of which all its answers and its books' values tell.
 pub fn replay<R: Threads + Wait + Sync, G: Gate + Sync>(
     rt: &R,
     alloc: Global,
@@ -101,7 +102,8 @@ pub fn replay<R: Threads + Wait + Sync, G: Gate + Sync>(
 ) -> Result<Replayed, NoMemory>
     requires workers { (1 ≤ workers) × (workers ≤ 64) }
     requires sound { IsSoundTrace workers (content trace.now) }
-    ensures { IfOk result (λ replayed. IsReplay workers (content trace.now) replayed.answers.items replayed.books.items) }
+    ensures told { IfOk result (λ replayed. TellsReplay (content trace.now) replayed.answers.items (map value_in replayed.books.items)) }
+    ensures books { IfOk result (λ replayed. IsReplay workers (content trace.now) replayed.answers.items replayed.books.items) }
 {
     let tenants = trace.tenants.as_slice();
     let rows = trace.rows.as_slice();

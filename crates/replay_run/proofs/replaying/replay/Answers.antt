@@ -10,6 +10,7 @@ use Rattle.trace_text.specs.declared.traces.Row.{Row}
 use Rattle.trace_text.specs.declared.traces.Tenant.{Tenant}
 use Rattle.replay_run.specs.Replay.{IsReplay, IsSegment, value_in}
 use Rattle.replay_run.specs.Ready.{IsSoundSegment}
+use Rattle.replay_run.proofs.Claims.{replay_tells}
 use Rattle.replay_run.proofs.Course.{Stands, stands_first, ends_behind, ends_within, segment_sound, segment_size, shelf_left, stands_more, ends_last, last_segment_sound, last_size, last_shelf, replayed_all}
 use Rattle.replay_run.proofs.replaying.replay.Goals as goal
 
@@ -137,5 +138,10 @@ returns g c =
     let Made : List Moved → List CoreLog → Type 0 = λ answers books. IsReplay c.args.workers (content c.args.trace.now) answers books in
     let whole : Made (c.loop-cut.replayed.answers.items ++ more.answers) (c.loop-cut.replayed.books.items ++ more.books) =
     subst (λ (t : Content). IsReplay c.args.workers t (c.loop-cut.replayed.answers.items ++ more.answers) (c.loop-cut.replayed.books.items ++ more.books)) same (replayed_all c.args.workers c.as_slice-tenants.result.now c.as_slice-rows.result.now c.deref-cut-items.result.now c.loop-cut.cut-index c.loop-cut.before c.loop-cut.openings.items c.loop-cut.replayed.answers.items c.loop-cut.replayed.books.items c.loop-cut.invariant.stands last all more.answers more.books segment) in
+    let replayed : Made c.go_on-2.new.replayed.answers.items c.go_on-2.new.replayed.books.items =
     subst (λ (answers : List Moved). Made answers c.go_on-2.new.replayed.books.items) (sym more.more_answers)
-    (subst (λ (books : List CoreLog). Made (c.loop-cut.replayed.answers.items ++ more.answers) books) (sym more.more_books) whole)
+    (subst (λ (books : List CoreLog). Made (c.loop-cut.replayed.answers.items ++ more.answers) books) (sym more.more_books) whole) in
+    record {
+      told = replay_tells c.args.workers (content c.args.trace.now) c.go_on-2.new.replayed.answers.items c.go_on-2.new.replayed.books.items c.requires.sound.cuts replayed;
+      books = replayed;
+    }
