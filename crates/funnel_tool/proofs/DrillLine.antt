@@ -23,7 +23,9 @@ use Rattle.replay_report.specs.Report.{moved_by, summary_line, summary_text}
 use Rattle.replay_report.proofs.Segments.{summary-is}
 use Rattle.replay_run.specs.Replay.{IsReplay, IsSegment, value_in}
 use Rattle.replay_run.specs.Segments.{call_after, kind_of}
-use Rattle.funnel_tool.specs.Outcome.{IsSummary, drill_line, total_added}
+use Rattle.funnel_tool.specs.Handed.{HandedBack}
+use Rattle.funnel_tool.specs.Accounts.{IsSummary}
+use Rattle.funnel_tool.specs.Outcome.{drill_line, total_added}
 use Rattle.replay_run.proofs.Outside.{adds}
 use Rattle.funnel_tool.proofs.NeverShort.{by_call, by_row, reply-whole, sum_by-rows, takes, value-whole}
 
@@ -140,15 +142,15 @@ added-amounts workers (row ∷ rows) sound =
     omega (arith, sum_by-cons size row rows, sum_by-cons (λ (r : Row). added r.op r.amount) row rows)
 
 -- the line of a drill is that of its numbers
-pub drill-line : (seed rows workers : ℕ) (text : List ℕ) (answers : List Moved) (books : List CoreLog) → rows ≤ 1000000 → 1 ≤ workers
-    → IsSummary workers (drill seed rows workers) text answers books → text ≡ drill_line seed rows workers
-drill-line seed rows workers text answers books few some_worker summary =
+pub drill-line : (seed rows workers : ℕ) (text : List ℕ) (handed : HandedBack) → rows ≤ 1000000 → 1 ≤ workers
+    → IsSummary workers (drill seed rows workers) text handed → text ≡ drill_line seed rows workers
+drill-line seed rows workers text handed few some_worker summary =
     let all = drill_rows seed rows workers in
     let sound = drill-sound seed rows workers few some_worker in
     let tenant : Tenant = record { name = codes "drill"; opening = total_taken all; cap = 9223372036854775807 } in
     let below : total_taken all + amounts 0 all < 2 ^ 63 = sound.below 0 tenant (omega arith) in
     let added_few : total_added all ≤ amounts 0 all = added-amounts workers all sound.rows in
-    let same = summary-whole workers tenant all answers books sound.rows (omega arith) (omega arith) summary.0 in
+    let same = summary-whole workers tenant all handed.answers handed.books sound.rows (omega arith) (omega arith) summary.0 in
     let count = length-map-range_with_len (drill_row seed workers) 0 rows in
     let left : total_taken all + total_added all - total_taken all ≡ total_added all = omega arith in
-    summary.1 ∙ same ∙ rw (count, left) refl
+    summary.2 ∙ same ∙ rw (count, left) refl

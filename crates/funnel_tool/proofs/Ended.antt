@@ -34,7 +34,7 @@ use Rattle.fn_core.specs.Machine.{no_cap}
 use Rattle.fn_model.specs.Integer.{value}
 use Rattle.funnel_tool.specs.Lines.{answer_line, answers_text, value_line}
 use Rattle.funnel_tool.specs.Play.{opened_core}
-use Rattle.funnel_tool.specs.Replies.{AreMet, IsMet, asked, calls_made, made_by}
+use Rattle.funnel_tool.specs.Answered.{AreMet, IsMet, asked, calls_made, made_by}
 use Rattle.funnel_tool.specs.Slots.{AllStand}
 use Rattle.funnel_tool.specs.Trial.{AreDone, HasMet, IsTrial, LineDone, first_callers, seen_of}
 use Rattle.funnel_tool.proofs.Advance.{IsOne, all-stand, done-by, each-set, glance-leaves, order-leaves}
@@ -109,14 +109,14 @@ own-same calls line told k other =
 record Line (t : TableView) (book : CoreLog) (calls : List Call) (old new : List Caller) (line : ScriptLine) (told : LineAnswer) : Type 0 where
   stand : AllStand t new
   know : AllKnow (calls ++ made_by calls line told) new
-  met : Extends book new → IsMet book.start (calls_in book) (own line.pass (calls ++ made_by calls line told)) told
+  met : Extends book new → IsMet book.start.cap book.start.opening (calls_in book) (own line.pass (calls ++ made_by calls line told)) told
   back : Extends book new → Extends book old
 
-met-in : (book : CoreLog) (p : PassView) (mine : List Call) (told : LineAnswer) → IsLegal book → book.start ≡ p.seen.start → IsLegal p.seen → IsPrefix p.seen.log book.log → IsMet p.seen.start (calls_in p.seen) mine told → IsMet book.start (calls_in book) mine told
+met-in : (book : CoreLog) (p : PassView) (mine : List Call) (told : LineAnswer) → IsLegal book → book.start ≡ p.seen.start → IsLegal p.seen → IsPrefix p.seen.log book.log → IsMet p.seen.start.cap p.seen.start.opening (calls_in p.seen) mine told → IsMet book.start.cap book.start.opening (calls_in book) mine told
 met-in book p mine told legal start legal_p begins met =
     let is : book ≡ grown p.seen begins.0 = λ i. record { start = start i; log = sym begins.1 i } in
     let there = met-later p.seen begins.0 mine told legal_p (subst IsLegal is legal) met in
-    subst (λ (x : CoreLog). IsMet x.start (calls_in x) mine told) (sym is) there
+    subst (λ (x : CoreLog). IsMet x.start.cap x.start.opening (calls_in x) mine told) (sym is) there
 
 module _ (t : TableView) (book : CoreLog) (legal : IsLegal book) (start : book.start ≡ t.start) where
   one-line : (calls : List Call) (old new : List Caller) (line : ScriptLine) (told : LineAnswer) → AllStand t old → AllKnow calls old → IsOne old line.pass line.order told new → Line t book calls old new line told
@@ -154,7 +154,7 @@ module _ (t : TableView) (book : CoreLog) (legal : IsLegal book) (start : book.s
       subst (λ (x : List Caller). Line t book calls old x line told) (sym m.now) (record {
         stand = all-stand t between line.pass 0 (Idle m.taker) (Idle m.after) stand_between m.taker_is next;
         know = subst (λ (x : List Call). AllKnow x (slice_set between line.pass (Idle m.after))) (sym none) (none-here calls between line.pass m.taker m.after stand_between know_between m.taker_is next.later m.met.1);
-        met = λ e. subst (λ (x : LineAnswer). IsMet book.start (calls_in book) (own line.pass (calls ++ made_by calls line told)) x) (sym is_met) tt;
+        met = λ e. subst (λ (x : LineAnswer). IsMet book.start.cap book.start.opening (calls_in book) (own line.pass (calls ++ made_by calls line told)) x) (sym is_met) tt;
         back = λ e. extends-set book old q (Idle m.giver) (Idle m.noted) m.giver_is first.later (extends-set book between line.pass (Idle m.taker) (Idle m.after) m.taker_is next.later e);
       })
 
@@ -165,7 +165,7 @@ module _ (t : TableView) (book : CoreLog) (legal : IsLegal book) (start : book.s
   ]
 
   pub all-lines : (lines : List ScriptLine) (answers : List LineAnswer) (old new : List Caller) (calls : List Call) → AllStand t old → AllKnow calls old → AreDone old lines answers new → Extends book new
-      → AreMet book.start (calls_in book) calls lines answers × AllKnow (calls_made calls lines answers) new × Extends book old
+      → AreMet book.start.cap book.start.opening (calls_in book) calls lines answers × AllKnow (calls_made calls lines answers) new × Extends book old
   all-lines [] [] old new calls stand know done e = (tt, subst (AllKnow calls) (sym done) know, subst (Extends book) done e)
   all-lines [] (told ∷ answers) old new calls stand know done e = absurd done
   all-lines (line ∷ lines) [] old new calls stand know done e = absurd done
@@ -231,7 +231,7 @@ closed-extends passes book closed k c at =
 module _ (script : Script) (sound : IsSound script) (t : TableView) (opens : t.start ≡ (opened_core script).start) (answers : List LineAnswer) (passes : List PassView) (book : CoreLog)
     (stand : AllStand t (map (λ (p : PassView). Idle p) passes)) (count : length passes ≡ t.start.shape.passes) (done : AreDone (first_callers t) script.lines answers (map (λ (p : PassView). Idle p) passes))
     (start : book.start ≡ t.start) (closed : IsClosed passes book) (calls : (k : ℕ) (p : PassView) → slice_get passes k ≡ Some p → own p.number (calls_in book) ≡ own p.number (calls_in p.seen)) where
-  ran : AreMet book.start (calls_in book) [] script.lines answers × AllKnow (calls_made [] script.lines answers) (map (λ (p : PassView). Idle p) passes) × Extends book (first_callers t)
+  ran : AreMet book.start.cap book.start.opening (calls_in book) [] script.lines answers × AllKnow (calls_made [] script.lines answers) (map (λ (p : PassView). Idle p) passes) × Extends book (first_callers t)
   ran = all-lines t book closed.legal start script.lines answers (first_callers t) (map (λ (p : PassView). Idle p) passes) [] (first-stand t) (first-know t (subst IsStart start closed.legal.0)) done (closed-extends passes book closed)
 
   made-inside : (pass : ℕ) → pass < t.start.shape.passes → own pass (calls_in book) ≡ own pass (calls_made [] script.lines answers)
@@ -259,8 +259,11 @@ module _ (script : Script) (sound : IsSound script) (t : TableView) (opens : t.s
     done = done;
     start = start;
     closed = closed;
-    met = subst (λ (s : Start). AreMet s (calls_in book) [] script.lines answers) (start ∙ opens) ran.0;
-    made = λ pass. elim (below-or pass t.start.shape.passes) [ inl inside ↦ made-inside pass inside | inr outside ↦ made-outside pass outside ];
+    told = record {
+      met = subst (λ (s : Start). AreMet s.cap s.opening (calls_in book) [] script.lines answers) (start ∙ opens) ran.0;
+      made = λ pass. elim (below-or pass t.start.shape.passes) [ inl inside ↦ made-inside pass inside | inr outside ↦ made-outside pass outside ];
+      value_is = refl;
+    };
   }
 
 -- the passes of callers that make no call

@@ -26,7 +26,7 @@ use Rattle.funnel_tool.specs.declared.lines.LineAnswer.TheVariants as answer
 use Rattle.funnel_tool.specs.declared.trial.Caller.{Caller}
 use Rattle.funnel_tool.specs.declared.trial.Caller.TheVariants.{Idle, Pending}
 use Rattle.funnel_tool.specs.Play.{told_answer}
-use Rattle.funnel_tool.specs.Replies.{IsMet, asked, made_by}
+use Rattle.funnel_tool.specs.Answered.{IsMet, asked, made_by}
 use Rattle.funnel_tool.specs.Slots.{IsRight}
 use Rattle.funnel_tool.specs.Trial.{Began, CallDone, OrderDone, StepDone, Subtracted, left_with, seen_of}
 use Rattle.funnel_tool.proofs.Advance.{tried-later}
@@ -67,7 +67,7 @@ module _ (calls : List Call) (p : PassView) (was : Knows calls p.number p) where
   -- .. and one that has made a call by itself
   made-one : (q : PassView) (kind : Kind) (n reply : ℕ) → IsLater p q → IsIdle p.seen p.number → HasCalled p kind n reply q
       → (let call : Call = record { pass = p.number; number = length (own p.number calls); kind = kind; amount = n } in
-      Knows (calls ++ call ∷ []) p.number q × IsMet q.seen.start (calls_in q.seen) (own p.number (calls ++ call ∷ [])) (answer.Reply reply))
+      Knows (calls ++ call ∷ []) p.number q × IsMet q.seen.start.cap q.seen.start.opening (calls_in q.seen) (own p.number (calls ++ call ∷ [])) (answer.Reply reply))
   made-one q kind n reply later idle called =
       let call : Call = record { pass = p.number; number = length (own p.number calls); kind = kind; amount = n } in
       let call_is : call_of p kind n ≡ call = ap (λ (m : ℕ). record { pass = p.number; number = m; kind = kind; amount = n }) (next-number p.seen calls p.number was.legal was.tracks) in
@@ -114,7 +114,7 @@ module _ (calls : List Call) (p : PassView) (was : Knows calls p.number p) where
 
   -- steps of a call
   told-one : (step : CoreStep) (q : PassView) → IsLater p q → HasCall p.seen p.number → Follows p.seen q.seen p.number step → HasSameCall p q
-      → Knows calls p.number q × IsMet q.seen.start (calls_in q.seen) (own p.number calls) (told_answer step)
+      → Knows calls p.number q × IsMet q.seen.start.cap q.seen.start.opening (calls_in q.seen) (own p.number calls) (told_answer step)
   told-one Going q later u follows same = (
     kept q later (ap (λ (m : ℕ). (caller_in q.seen m).made) (sym later.number) ∙ same.made, ap (λ (m : ℕ). (caller_in q.seen m).last) (sym later.number) ∙ same.last)
         (λ idle. absurd (resting_passes_have_no_call p.seen was.legal p.number was.inside idle u)) (λ before. follows.0),
@@ -143,16 +143,16 @@ module _ (calls : List Call) (p : PassView) (was : Knows calls p.number p) where
 abbrev pub Told : List Call → ScriptLine → LineAnswer → Caller → Type 0
 Told calls line told now =
     let made = calls ++ made_by calls line told in
-    Knows made line.pass (seen_of now) × IsMet (seen_of now).seen.start (calls_in (seen_of now).seen) (own line.pass made) told
+    Knows made line.pass (seen_of now) × IsMet (seen_of now).seen.start.cap (seen_of now).seen.start.opening (calls_in (seen_of now).seen) (own line.pass made) told
 
 module _ (calls : List Call) (at : ℕ) (p : PassView) (was : Knows calls p.number p) where
   abbrev here : Order → ScriptLine
   here o = record { at = at; pass = p.number; order = o }
 
-  none-told : (o : Order) (told : LineAnswer) (q : PassView) (c : Caller) → seen_of c ≡ q → calls ++ made_by calls (here o) told ≡ calls → Knows calls p.number q → IsMet q.seen.start (calls_in q.seen) (own p.number calls) told → Told calls (here o) told c
+  none-told : (o : Order) (told : LineAnswer) (q : PassView) (c : Caller) → seen_of c ≡ q → calls ++ made_by calls (here o) told ≡ calls → Knows calls p.number q → IsMet q.seen.start.cap q.seen.start.opening (calls_in q.seen) (own p.number calls) told → Told calls (here o) told c
   none-told o told q c is none knows met =
-      subst (λ (x : PassView). Knows (calls ++ made_by calls (here o) told) p.number x × IsMet x.seen.start (calls_in x.seen) (own p.number (calls ++ made_by calls (here o) told)) told) (sym is)
-      (subst (λ (x : List Call). Knows x p.number q × IsMet q.seen.start (calls_in q.seen) (own p.number x) told) (sym none) (knows, met))
+      subst (λ (x : PassView). Knows (calls ++ made_by calls (here o) told) p.number x × IsMet x.seen.start.cap x.seen.start.opening (calls_in x.seen) (own p.number (calls ++ made_by calls (here o) told)) told) (sym is)
+      (subst (λ (x : List Call). Knows x p.number q × IsMet q.seen.start.cap q.seen.start.opening (calls_in q.seen) (own p.number x) told) (sym none) (knows, met))
 
   began-told : (o : Order) (kind : Kind) (n : ℕ) → asked p.number (length (own p.number calls)) o ≡ record { pass = p.number; number = length (own p.number calls); kind = kind; amount = n } ∷ []
       → IsIdle p.seen p.number → (told : LineAnswer) (c : Caller) → Began p kind n told c → Told calls (here o) told c
@@ -194,7 +194,7 @@ module _ (calls : List Call) (at : ℕ) (p : PassView) (was : Knows calls p.numb
   with-seen (NotYet why) q = refl
 
   steps-told : (o : Order) → asked p.number (length (own p.number calls)) o ≡ [] → (step : CoreStep) (q : PassView) (told : LineAnswer) (c : Caller) → told ≡ told_answer step → c ≡ left_with step q
-      → Knows calls p.number q × IsMet q.seen.start (calls_in q.seen) (own p.number calls) (told_answer step) → Told calls (here o) told c
+      → Knows calls p.number q × IsMet q.seen.start.cap q.seen.start.opening (calls_in q.seen) (own p.number calls) (told_answer step) → Told calls (here o) told c
   steps-told o none step q told c is_told is_left all =
       subst (λ (x : LineAnswer). Told calls (here o) x c) (sym is_told)
       (none-told o (told_answer step) q c (ap seen_of is_left ∙ with-seen step q) (none-made calls (here o) (told_answer step) none) all.0 all.1)

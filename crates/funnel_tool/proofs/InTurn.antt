@@ -14,7 +14,7 @@ use Rattle.trace_text.specs.declared.scripts.Order.TheVariants as order
 use Rattle.trace_text.specs.declared.scripts.ScriptLine.{ScriptLine}
 use Rattle.funnel_tool.specs.declared.lines.LineAnswer.{LineAnswer}
 use Rattle.funnel_tool.specs.declared.lines.LineAnswer.TheVariants.{Waits, NoRow, Going, Reply, NotYet, Lost, Met}
-use Rattle.funnel_tool.specs.Replies.{IsMet, StandsBefore, answered_by, asked, made_by}
+use Rattle.funnel_tool.specs.Answered.{IsMet, StandsBefore, answered_by, asked, made_by}
 
 -- the call has a place in the history
 abbrev pub IsPlaced : List Call → Call → Type 0
@@ -56,7 +56,7 @@ last-is mine earlier call is =
     let at : length mine - 1 ≡ length earlier = omega (arith, size, more) in
     ap (λ (n : ℕ). drop n mine) at ∙ ap (drop (length earlier)) is ∙ drop-append_seam earlier (call ∷ [])
 
-pub answered-placed : (start : Start) (past mine : List Call) (told : LineAnswer) → IsMet start past mine told → All (IsPlaced past) (answered_by mine told)
+pub answered-placed : (start : Start) (past mine : List Call) (told : LineAnswer) → IsMet start.cap start.opening past mine told → All (IsPlaced past) (answered_by mine told)
 answered-placed start past mine (Reply n) met =
     let call : Call = met.1 in
     let placed : IsPlaced past call = (met.3.0, met.3.1, met.3.2) in

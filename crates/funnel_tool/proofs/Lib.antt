@@ -1,4 +1,5 @@
 pub mod Advance
+pub mod Claimed
 pub mod Complete
 pub mod Counts
 pub mod Ended

@@ -24,7 +24,7 @@ use Rattle.funnel_tool.specs.declared.play.PlayFault.{PlayFault}
 use Rattle.funnel_tool.specs.declared.play.PlayFault.TheVariants.{Busy, NothingPending}
 use Rattle.fn_core.specs.Polls.{most_steps}
 use Rattle.funnel_tool.specs.Play.{after_line, begun_answer, busy, idle, order_answer, order_fault, rests}
-use Rattle.funnel_tool.specs.Replies.{asked, made_by}
+use Rattle.funnel_tool.specs.Answered.{asked, made_by}
 use Rattle.funnel_tool.proofs.Leaving.{resting-is, resting-not}
 use Rattle.funnel_tool.proofs.Orders.{Taken, begin-taken, made_then, meet-taken, own-taken, step-taken}
 use Rattle.funnel_tool.proofs.Polled.{poll-taken}

@@ -22,7 +22,7 @@ use Rattle.funnel_tool.specs.declared.lines.LineAnswer.{LineAnswer}
 use Rattle.funnel_tool.specs.declared.lines.LineAnswer.TheVariants as answer
 use Rattle.funnel_tool.specs.Play.{begun_answer, told_answer}
 use Rattle.funnel_tool.specs.Doing.{Leaves}
-use Rattle.funnel_tool.specs.Replies.{IsMet}
+use Rattle.funnel_tool.specs.Answered.{IsMet}
 use Rattle.funnel_tool.proofs.Leaving.{leaves-by, leaves-none, underway-after, with_moves-log}
 use Rattle.funnel_tool.proofs.Tracks.{Tracks, after, caller_in, grown, next-number, own-more, rests-has-all, tracks-begun, tracks-here, tracks-kept}
 
@@ -33,7 +33,7 @@ pub record Taken (core new : CoreLog) (pass amount : ℕ) (calls : List Call) (t
   pub grown_is : new ≡ grown core more
   pub leaves : Leaves core new pass amount
   pub tracks : Tracks new calls pass
-  pub met : IsMet new.start (calls_in new) (own pass calls) told
+  pub met : IsMet new.start.cap new.start.opening (calls_in new) (own pass calls) told
 
 -- the calls that a beginning has made, by what it is answered
 abbrev pub made_then : Call → CoreBegun → List Call

@@ -30,7 +30,8 @@ use Rattle.funnel_tool.specs.declared.lines.LineAnswer.TheVariants.{Waits, NoRow
 use Rattle.funnel_tool.specs.declared.play.PlayFault.{PlayFault}
 use Rattle.funnel_tool.specs.Play.{after_line, answered, finish, opened_core, order_answer, order_fault, play_lines, play_text, rests, run_text, unfinished}
 use Rattle.funnel_tool.specs.Doing.{IsReady}
-use Rattle.funnel_tool.specs.Replies.{AreInTurn, AreMet, IsMet, IsRunText, RepliesAreMet, StandsBefore, answered_by, calls_made, made_by, played}
+use Rattle.funnel_tool.specs.Answered.{AreInTurn, AreMet, IsMet, StandsBefore, answered_by, calls_made, made_by}
+use Rattle.funnel_tool.specs.Replies.{IsRunText, RepliesAreMet, played}
 use Rattle.funnel_tool.proofs.InTurn.{IsNew, IsPlaced, all-before, all-placed, answered-placed, made-all}
 use Rattle.funnel_tool.proofs.Leaving.{resting-is}
 use Rattle.funnel_tool.proofs.OneByOne.{play-more, play-refused, ready-first, ready-left, ready-next}
@@ -58,7 +59,7 @@ has-later core more call n legal longer has =
     subst (λ (x : List Call). HasReply core.start x call n) (sym further.1)
     (has.0, stays.0, (let size = length-append past further.0 in let within = has.2 in omega arith), get_or_append_left past further.0 call has.0 has.2 ∙ has.3, stays.1 ∙ has.4)
 
-pub met-later : (core : CoreLog) (more : List Event) (mine : List Call) (told : LineAnswer) → IsLegal core → IsLegal (grown core more) → IsMet core.start (calls_in core) mine told → IsMet core.start (calls_in (grown core more)) mine told
+pub met-later : (core : CoreLog) (more : List Event) (mine : List Call) (told : LineAnswer) → IsLegal core → IsLegal (grown core more) → IsMet core.start.cap core.start.opening (calls_in core) mine told → IsMet core.start.cap core.start.opening (calls_in (grown core more)) mine told
 met-later core more mine (Reply n) legal longer met = (met.0, met.1, met.2, has-later core more met.1 n legal longer met.3)
 met-later core more mine Waits legal longer met = tt
 met-later core more mine (NoRow blocked) legal longer met = tt
@@ -124,7 +125,7 @@ pub record Runs (core : CoreLog) (calls : List Call) (lines : List ScriptLine) (
   pub legal : IsLegal (played core lines)
   pub more : List Event
   pub grown_is : played core lines ≡ grown core more
-  pub met : AreMet core.start (calls_in (played core lines)) calls lines answers
+  pub met : AreMet core.start.cap core.start.opening (calls_in (played core lines)) calls lines answers
   pub made : (pass : ℕ) → own pass (calls_in (played core lines)) ≡ own pass (calls_made calls lines answers)
   pub in_turn : (earlier : List Call) → All (IsPlaced (calls_in core)) earlier → AreInTurn (calls_in (played core lines)) calls earlier lines answers
   pub value_is : last ≡ value core.start.cap core.start.opening (calls_in (played core lines))
@@ -165,14 +166,14 @@ runs-line core calls line lines told rest last legal tracks taken runs =
     let all_more : end ≡ grown core (taken.more ++ runs.more) = grown-both core next end taken.more runs.more taken.grown_is runs.grown_is in
     let whole = grows-to core end (taken.more ++ runs.more) legal runs.legal all_more in
     let start : next.start ≡ core.start = ap (λ (x : CoreLog). x.start) taken.grown_is in
-    let here : IsMet next.start (calls_in end) mine told =
-    subst (λ (x : CoreLog). IsMet next.start (calls_in x) mine told) (sym runs.grown_is)
+    let here : IsMet next.start.cap next.start.opening (calls_in end) mine told =
+    subst (λ (x : CoreLog). IsMet next.start.cap next.start.opening (calls_in x) mine told) (sym runs.grown_is)
     (met-later next runs.more mine told taken.legal (subst IsLegal runs.grown_is runs.legal) taken.met) in
     record {
       legal = runs.legal;
       more = taken.more ++ runs.more;
       grown_is = all_more;
-      met = (subst (λ (x : Start). IsMet x (calls_in end) mine told) start here, subst (λ (x : Start). AreMet x (calls_in end) now lines rest) start runs.met);
+      met = (subst (λ (x : Start). IsMet x.cap x.opening (calls_in end) mine told) start here, subst (λ (x : Start). AreMet x.cap x.opening (calls_in end) now lines rest) start runs.met);
       made = runs.made;
       in_turn = λ earlier placed. (
         behind core end calls line told earlier legal tracks whole.0 whole.1 placed,
@@ -221,7 +222,7 @@ opened-stands script sound =
 pub replies_are_met : RepliesAreMet
 replies_are_met script answers last sound plays =
     let all = runs script.lines (opened_core script) [] answers last (opened-stands script sound) plays in
-    record { plays = plays; met = all.met; made = all.made; in_turn = all.in_turn [] (All-nil (IsPlaced (calls_in (opened_core script)))); value_is = all.value_is }
+    record { plays = plays; told = record { met = all.met; made = all.made; value_is = all.value_is }; in_turn = all.in_turn [] (All-nil (IsPlaced (calls_in (opened_core script)))) }
 
 -- the text of a script that can be played
 same-text : (a b : List ℕ) → (let text : List ℕ → Result (List ℕ) PlayFault = λ x. Ok x in text a ≡ text b) → a ≡ b

@@ -1,8 +1,11 @@
+pub mod Handed
 pub mod Lines
 pub mod Play
+pub mod Answered
 pub mod Doing
 pub mod Replies
 pub mod Outcome
 pub mod Trial
+pub mod Accounts
 pub mod Telling
 pub mod Slots

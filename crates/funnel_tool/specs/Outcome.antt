@@ -1,16 +1,17 @@
--- How a run of the tool ends: what it read and wrote, its status, what it hands back, and its line on standard error.
+-- How a run of the tool ends: what it read and wrote, its status, and its line on standard error. How it came to that, and the books that it hands back, are told in Accounts.
 --     Input, Output      what a run sees of its source, and of the sink for its text
 --     of_scripts asked      the command that is asked for, where it is one on scripts
 --     Reads command input bytes      what a command reads
---     Tells command bytes text answers books queue      the text of a command, and what it hands back
---     Refuses command bytes why callers      why a command can't have its text
---     Ends asked input output outcome ending      what each ending means
+--     Tells command bytes text answers      the text of a command
+--     Refuses command bytes why      why a command can't have its text
+--     Ends asked input output answers ending      what each ending means
+--     IsComplete asked input output outcome      a run whose input is accepted is done
 --     status_of ending, error_line ending      its status, and its line on standard error
-use Rattle.std.specs.Prelude.{◌≡◌, ◌⊎◌, All, ℕ, ◌+◌, ◌<◌, ◌≤◌, ◌++◌, List, [], ◌∷◌, length, map, Option, Some, None, Ok, Err, codes, decimal, sum_by}
+use Rattle.std.specs.Prelude.{◌≡◌, ◌⊎◌, All, ℕ, ◌+◌, ◌<◌, ◌≤◌, ◌++◌, List, [], length, Option, Some, None, Ok, Err, codes, decimal, sum_by}
 use Rattle.std.specs.Io.KnownBytes.{Consumes, Appends, IsAtEnd}
 use Rattle.edge_io.specs.Causes.{Rose}
 use Rattle.edge_io.specs.Whole.{AppendsPart}
-use Rattle.fn_core.specs.Calls.{CoreLog, calls_in}
+use Rattle.fn_model.specs.declared.Call.{Call}
 use Rattle.fn_layout.specs.declared.shape.ShapeFault.{ShapeFault}
 use Rattle.fn_layout.specs.declared.shape.ShapeFault.TheVariants as shape
 use Rattle.quota_pool.specs.declared.moved.Moved.{Moved}
@@ -23,29 +24,34 @@ use Rattle.trace_text.specs.declared.scripts.ScriptFault.TheVariants as script
 use Rattle.trace_text.specs.declared.traces.Row.{Row}
 use Rattle.trace_text.specs.declared.traces.TraceFault.{TraceFault}
 use Rattle.trace_text.specs.declared.traces.TraceFault.TheVariants as trace
-use Rattle.replay_run.specs.Replay.{IsReplay, value_in}
+use Rattle.replay_run.specs.Claim.{TellsReplay}
 use Rattle.tq_queue.specs.Seen.{BookView}
-use Rattle.fn_rounds.specs.Script.{IsBookOf, IsChangeOrder, TellsRounds, other_order}
-use Rattle.fn_spread.specs.Account.{IsBookOfDraws}
-use Rattle.fn_spread.specs.Tally.{draws_in, newlines_in, pieces_in, tally_line}
+use Rattle.fn_rounds.specs.Script.{IsChangeOrder, TellsRounds, other_order}
+use Rattle.fn_spread.specs.Tally.{draws_in, newlines_in, tally_line}
+use Rattle.tick_table.specs.declared.entry.Entry.{Entry}
+use Rattle.throttle_run.specs.Faults.{IsFirstFault}
+use Rattle.throttle_run.specs.Lines.{throttle_of}
+use Rattle.throttle_run.specs.Throttled.{TellsText}
+use Rattle.throttle_run.specs.declared.faults.ThrottleFault.{ThrottleFault}
+use Rattle.throttle_run.specs.declared.faults.ThrottleFault.TheVariants as takes
+use Rattle.throttle_run.specs.declared.lines.ThrottleLine.{ThrottleLine}
+use Rattle.trace_text.specs.Text.{lines}
 use Rattle.relay_run.specs.Lines.{lines_of}
 use Rattle.relay_run.specs.Relay.{IsRelay, order_of, text_from}
 use Rattle.relay_run.specs.declared.lines.TheConstants.{MOST_LINES}
-use Rattle.replay_report.specs.Report.{report_text, summary_line, summary_text}
+use Rattle.replay_report.specs.Report.{report_text, summary_line}
 use Rattle.tool_words.specs.declared.commands.Command.{Command}
-use Rattle.tool_words.specs.declared.commands.Command.TheVariants.{Play, Trial, Replay, Drill, Relay, Rounds, Tally}
+use Rattle.tool_words.specs.declared.commands.Command.TheVariants.{Play, Trial, Replay, Drill, Relay, Rounds, Tally, Throttle}
+use Rattle.funnel_tool.specs.Answered.{TellsInTurn, TellsScript}
 use Rattle.funnel_tool.specs.Play.{play_text}
-use Rattle.funnel_tool.specs.Replies.{IsRunText}
-use Rattle.funnel_tool.specs.Trial.{IsHalted, TellsTrial}
 use Rattle.funnel_tool.specs.declared.ending.Ending.{Ending}
 use Rattle.funnel_tool.specs.declared.ending.Ending.TheVariants.{Done, Words, Refused, ReadFailed, WriteFailed, WriteStuck, NoMemory}
 use Rattle.funnel_tool.specs.declared.ending.Refusal.{Refusal}
-use Rattle.funnel_tool.specs.declared.ending.Refusal.TheVariants.{TooLong, ByScript, ByPlay, ByTrace, TooManyLines, ByOrder}
+use Rattle.funnel_tool.specs.declared.ending.Refusal.TheVariants.{TooLong, ByScript, ByPlay, ByTrace, TooManyLines, ByOrder, ByThrottle}
 use Rattle.funnel_tool.specs.declared.ending.TheConstants.{INPUT_LIMIT}
 use Rattle.funnel_tool.specs.declared.play.PlayFault.{PlayFault}
 use Rattle.funnel_tool.specs.declared.play.PlayFault.TheVariants as play
 use Rattle.funnel_tool.specs.declared.run.Outcome.{Outcome}
-use Rattle.funnel_tool.specs.declared.trial.Caller.{Caller}
 
 -- what a run sees of its source, before and after
 pub record Input : Type 0 where
@@ -105,14 +111,6 @@ Writes output text WriteFailed = AppendsPart output.held output.held_then text �
 Writes output text WriteStuck = AppendsPart output.held output.held_then text × Rose output.empty output.empty_then
 Writes output text _ = ⊥
 
--- answers and books of a trace's replay, and the report of these answers and of the books' values
-abbrev pub IsReport : ℕ → Content → List ℕ → List Moved → List CoreLog → Type 0
-IsReport workers trace text answers books = IsReplay workers trace answers books × (text ≡ report_text trace answers (map value_in books))
-
--- .. and their summary
-abbrev pub IsSummary : ℕ → Content → List ℕ → List Moved → List CoreLog → Type 0
-IsSummary workers trace text answers books = IsReplay workers trace answers books × (text ≡ summary_text trace workers answers (map value_in books))
-
 -- what rows can add together
 abbrev pub total_added : List Row → ℕ
 total_added rows = sum_by (λ row. added row.op row.amount) rows
@@ -122,96 +120,93 @@ abbrev pub drill_line : ℕ → ℕ → ℕ → List ℕ
 drill_line seed rows workers =
     let all = drill_rows seed rows workers in summary_line rows workers (total_taken all) (total_added all) (total_taken all) (total_added all)
 
--- the book of the queue through which lines were relayed, and their text, which has them by rising ticket
-abbrev pub HasRelayed : ℕ → ℕ → List (List ℕ) → List ℕ → List Moved → List CoreLog → Option (BookView ℕ) → Type 0
-HasRelayed workers capacity lines text answers books queue =
-    (book : BookView ℕ) × IsRelay workers capacity (length lines) book × (text ≡ text_from 0 lines (order_of (length lines) book)) × (answers ≡ []) × (books ≡ []) × (queue ≡ Some book)
-
 -- a script of additions and subtractions alone
 abbrev pub HasChanges : Script → Type 0
 HasChanges script = All (λ line. IsChangeOrder line.order) script.lines
 
--- the line of a tally, and the book of its draws
-abbrev pub HasTallied : ℕ → ℕ → List ℕ → List ℕ → CoreLog → Type 0
-HasTallied workers grain bytes text book =
-    (text ≡ tally_line (newlines_in bytes) (length bytes) (draws_in workers grain (length bytes))) × ((draws : List ℕ) × IsBookOfDraws workers grain (pieces_in (length bytes)) draws book)
+-- the text has the lines by rising ticket, as a queue had them into which each worker put its own, in order
+abbrev pub IsRelayed : ℕ → ℕ → List (List ℕ) → List ℕ → BookView ℕ → Type 0
+IsRelayed workers capacity lines text book = IsRelay workers capacity (length lines) book × (text ≡ text_from 0 lines (order_of (length lines) book))
 
--- the text of a command, and what it hands back: the answers and books of a replay, the book of a trial, of calls in turns or of a tally, or the book of a relay's queue
-abbrev pub Tells : Command → List ℕ → List ℕ → List Moved → List CoreLog → Option (BookView ℕ) → Type 0
-Tells Play bytes text answers books queue = (s : Script) × (script_of bytes ≡ Ok (content s)) × IsRunText s text × (answers ≡ []) × (books ≡ []) × (queue ≡ None)
-Tells Trial bytes text answers books queue = (s : Script) × (book : CoreLog) × (script_of bytes ≡ Ok (content s)) × TellsTrial s text book × (answers ≡ []) × (books ≡ book ∷ []) × (queue ≡ None)
-Tells (Replay workers) bytes text answers books queue =
-    (t : Content) × (trace_of workers bytes ≡ Ok t) × IsReport workers t text answers books × (queue ≡ None)
-Tells (Drill seed rows workers) bytes text answers books queue = IsSummary workers (drill seed rows workers) text answers books × (text ≡ drill_line seed rows workers) × (queue ≡ None)
-Tells (Relay workers capacity) bytes text answers books queue = (length (lines_of bytes) ≤ MOST_LINES) × HasRelayed workers capacity (lines_of bytes) text answers books queue
-Tells Rounds bytes text answers books queue =
-    (s : Script) × (book : CoreLog) × (script_of bytes ≡ Ok (content s)) × HasChanges s × TellsRounds s text (calls_in book) × IsBookOf s book × (answers ≡ []) × (books ≡ book ∷ []) × (queue ≡ None)
-Tells (Tally workers grain) bytes text answers books queue = (book : CoreLog) × HasTallied workers grain bytes text book × (answers ≡ []) × (books ≡ book ∷ []) × (queue ≡ None)
+-- the text of a command from the bytes that it read, and the answers that are handed back; where it tells of a history, there is one of which it is true
+abbrev pub Tells : Command → List ℕ → List ℕ → List Moved → Type 0
+Tells Play bytes text answers = (s : Script) × (script_of bytes ≡ Ok (content s)) × TellsInTurn s text × (answers ≡ [])
+Tells Trial bytes text answers = (s : Script) × (script_of bytes ≡ Ok (content s)) × TellsScript s text × (answers ≡ [])
+Tells (Replay workers) bytes text answers = (t : Content) × (finals : List ℕ) × (trace_of workers bytes ≡ Ok t) × TellsReplay t answers finals × (text ≡ report_text t answers finals)
+Tells (Drill seed rows workers) bytes text answers = (finals : List ℕ) × TellsReplay (drill seed rows workers) answers finals × (text ≡ drill_line seed rows workers)
+Tells (Relay workers capacity) bytes text answers = (book : BookView ℕ) × (length (lines_of bytes) ≤ MOST_LINES) × IsRelayed workers capacity (lines_of bytes) text book × (answers ≡ [])
+Tells Rounds bytes text answers = (s : Script) × (history : List Call) × (script_of bytes ≡ Ok (content s)) × HasChanges s × TellsRounds s text history × (answers ≡ [])
+Tells (Tally workers grain) bytes text answers = (text ≡ tally_line (newlines_in bytes) (length bytes) (draws_in workers grain (length bytes))) × (answers ≡ [])
+Tells (Throttle workers burst rate period) bytes text answers = (tokens : List Call) × (ticks : List Entry) × TellsText workers burst rate period bytes text tokens ticks × (answers ≡ [])
 
--- why bytes are no script, or one that can't be done
-abbrev pub RefusesScript : List ℕ → Refusal → (Script → PlayFault → Type 0) → List Caller → Type 0
-RefusesScript bytes (ByScript fault) Stops callers = (script_of bytes ≡ Err fault) × (callers ≡ [])
-RefusesScript bytes (ByPlay fault) Stops callers = (s : Script) × (script_of bytes ≡ Ok (content s)) × Stops s fault
-RefusesScript bytes _ Stops callers = ⊥
+-- why bytes are no script, or are one that can't be done
+abbrev pub RefusesScript : List ℕ → Refusal → Type 0
+RefusesScript bytes (ByScript fault) = script_of bytes ≡ Err fault
+RefusesScript bytes (ByPlay fault) = (s : Script) × (script_of bytes ≡ Ok (content s))
+RefusesScript bytes _ = ⊥
 
 -- why bytes are no trace
-abbrev pub RefusesTrace : ℕ → List ℕ → Refusal → List Caller → Type 0
-RefusesTrace workers bytes (ByTrace fault) callers = (trace_of workers bytes ≡ Err fault) × (callers ≡ [])
-RefusesTrace workers bytes _ callers = ⊥
+abbrev pub RefusesTrace : ℕ → List ℕ → Refusal → Type 0
+RefusesTrace workers bytes (ByTrace fault) = trace_of workers bytes ≡ Err fault
+RefusesTrace workers bytes _ = ⊥
 
 -- why lines aren't relayed: there is one more than may be, which is told
-abbrev pub RefusesLines : List ℕ → Refusal → List Caller → Type 0
-RefusesLines bytes (TooManyLines at) callers = (MOST_LINES < length (lines_of bytes)) × (at ≡ MOST_LINES + 1) × (callers ≡ [])
-RefusesLines bytes _ callers = ⊥
+abbrev pub RefusesLines : List ℕ → Refusal → Type 0
+RefusesLines bytes (TooManyLines at) = (MOST_LINES < length (lines_of bytes)) × (at ≡ MOST_LINES + 1)
+RefusesLines bytes _ = ⊥
 
 -- why bytes are no script of additions and subtractions: the first line with another order is told
-abbrev pub RefusesOrders : List ℕ → Refusal → List Caller → Type 0
-RefusesOrders bytes (ByScript fault) callers = (script_of bytes ≡ Err fault) × (callers ≡ [])
-RefusesOrders bytes (ByOrder at) callers = (s : Script) × (script_of bytes ≡ Ok (content s)) × (other_order s.lines ≡ Some at) × (callers ≡ [])
-RefusesOrders bytes _ callers = ⊥
+abbrev pub RefusesOrders : List ℕ → Refusal → Type 0
+RefusesOrders bytes (ByScript fault) = script_of bytes ≡ Err fault
+RefusesOrders bytes (ByOrder at) = (s : Script) × (script_of bytes ≡ Ok (content s)) × (other_order s.lines ≡ Some at)
+RefusesOrders bytes _ = ⊥
 
--- why a command can't have its text, and the callers that it hands back: those of the table on which a line of a script can't be done
-abbrev pub Refuses : Command → List ℕ → Refusal → List Caller → Type 0
-Refuses Play bytes why callers = RefusesScript bytes why (λ s fault. (play_text s ≡ Err fault) × (callers ≡ [])) callers
-Refuses Trial bytes why callers = RefusesScript bytes why (λ s fault. IsHalted s fault callers) callers
-Refuses (Replay workers) bytes why callers = RefusesTrace workers bytes why callers
-Refuses (Drill seed rows workers) bytes why callers = ⊥
-Refuses (Relay workers capacity) bytes why callers = RefusesLines bytes why callers
-Refuses Rounds bytes why callers = RefusesOrders bytes why callers
-Refuses (Tally workers grain) bytes why callers = ⊥
+-- why bytes are no text of takes: the first fault of the first line that is at fault is told
+abbrev pub RefusesTakes : ℕ → ℕ → List ℕ → Refusal → Type 0
+RefusesTakes workers burst bytes (ByThrottle fault) = IsFirstFault workers burst (lines bytes) fault × (throttle_of workers burst bytes ≡ Err fault)
+RefusesTakes workers burst bytes _ = ⊥
+
+-- why a command can't have its text
+abbrev pub Refuses : Command → List ℕ → Refusal → Type 0
+Refuses Play bytes why = RefusesScript bytes why
+Refuses Trial bytes why = RefusesScript bytes why
+Refuses (Replay workers) bytes why = RefusesTrace workers bytes why
+Refuses (Drill seed rows workers) bytes why = ⊥
+Refuses (Relay workers capacity) bytes why = RefusesLines bytes why
+Refuses Rounds bytes why = RefusesOrders bytes why
+Refuses (Tally workers grain) bytes why = ⊥
+Refuses (Throttle workers burst rate period) bytes why = RefusesTakes workers burst bytes why
 
 -- a command that refuses its input has read it, but for input that is too long to its end
-abbrev pub IsRefused : Command → Input → Refusal → List Caller → Type 0
-IsRefused command input TooLong callers = HasInput command × (bytes : List ℕ) × Consumes input.left input.left_then bytes × (INPUT_LIMIT < length bytes) × (callers ≡ [])
-IsRefused command input why callers = (bytes : List ℕ) × Reads command input bytes × Refuses command bytes why callers
+abbrev pub IsRefused : Command → Input → Refusal → Type 0
+IsRefused command input TooLong = HasInput command × (bytes : List ℕ) × Consumes input.left input.left_then bytes × (INPUT_LIMIT < length bytes)
+IsRefused command input why = (bytes : List ℕ) × Reads command input bytes × Refuses command bytes why
 
 -- how a run ends that has no text
-abbrev pub Stops : Option Command → Input → Ending → List Caller → Type 0
-Stops asked input Words callers = (asked ≡ None) × ReadsNothing input × (callers ≡ [])
-Stops asked input (Refused why) callers = (command : Command) × (asked ≡ Some command) × IsRefused command input why callers
-Stops asked input ReadFailed callers = (command : Command) × (asked ≡ Some command) × HasInput command × Rose input.faults input.faults_then × (callers ≡ [])
-Stops asked input NoMemory callers = callers ≡ []
-Stops asked input _ callers = ⊥
+abbrev pub Stops : Option Command → Input → Ending → Type 0
+Stops asked input Words = (asked ≡ None) × ReadsNothing input
+Stops asked input (Refused why) = (command : Command) × (asked ≡ Some command) × IsRefused command input why
+Stops asked input ReadFailed = (command : Command) × (asked ≡ Some command) × HasInput command × Rose input.faults input.faults_then
+Stops asked input NoMemory = Unit {0}
+Stops asked input _ = ⊥
 
 -- a run had its text, and wrote it, or a front of it
-abbrev pub HasText : Option Command → Input → Output → Outcome → Ending → Type 0
-HasText asked input output outcome ending =
-    (command : Command) × (bytes text : List ℕ) × (asked ≡ Some command) × Reads command input bytes
-    × Tells command bytes text outcome.answers.items outcome.books.items outcome.queue × (outcome.halted.items ≡ []) × Writes output text ending
+abbrev pub HasText : Option Command → Input → Output → List Moved → Ending → Type 0
+HasText asked input output answers ending =
+    (command : Command) × (bytes text : List ℕ) × (asked ≡ Some command) × Reads command input bytes × Tells command bytes text answers × Writes output text ending
 
--- a run had no text, wrote nothing, and hands back no answers and books
-abbrev pub HasNoText : Option Command → Input → Output → Outcome → Ending → Type 0
-HasNoText asked input output outcome ending =
-    Stops asked input ending outcome.halted.items × WritesNothing output × (outcome.answers.items ≡ []) × (outcome.books.items ≡ []) × (outcome.queue ≡ None)
+-- a run had no text, wrote nothing, and hands no answers back
+abbrev pub HasNoText : Option Command → Input → Output → List Moved → Ending → Type 0
+HasNoText asked input output answers ending = Stops asked input ending × WritesNothing output × (answers ≡ [])
 
 -- what each ending means
-abbrev pub Ends : Option Command → Input → Output → Outcome → Ending → Type 0
-Ends asked input output outcome Done = HasText asked input output outcome Done
-Ends asked input output outcome WriteFailed = HasText asked input output outcome WriteFailed
-Ends asked input output outcome WriteStuck = HasText asked input output outcome WriteStuck
-Ends asked input output outcome ending = HasNoText asked input output outcome ending
+abbrev pub Ends : Option Command → Input → Output → List Moved → Ending → Type 0
+Ends asked input output answers Done = HasText asked input output answers Done
+Ends asked input output answers WriteFailed = HasText asked input output answers WriteFailed
+Ends asked input output answers WriteStuck = HasText asked input output answers WriteStuck
+Ends asked input output answers ending = HasNoText asked input output answers ending
 
--- bytes in which a command finds no fault: a script that plays to an end, a script, a trace, lines, a script of additions and subtractions, or any
+-- bytes in which a command finds no fault: a script that plays to an end, a script, a trace, lines, a script of additions and subtractions, lines of takes, or any
 abbrev pub IsAccepted : Command → List ℕ → Type 0
 IsAccepted Play bytes = (s : Script) × (text : List ℕ) × (script_of bytes ≡ Ok (content s)) × (play_text s ≡ Ok text)
 IsAccepted Trial bytes = (s : Script) × (script_of bytes ≡ Ok (content s))
@@ -220,6 +215,7 @@ IsAccepted (Drill seed rows workers) bytes = Unit {0}
 IsAccepted (Relay workers capacity) bytes = length (lines_of bytes) ≤ MOST_LINES
 IsAccepted Rounds bytes = (s : Script) × (script_of bytes ≡ Ok (content s)) × HasChanges s
 IsAccepted (Tally workers grain) bytes = Unit {0}
+IsAccepted (Throttle workers burst rate period) bytes = (items : List ThrottleLine) × (throttle_of workers burst bytes ≡ Ok items)
 
 -- a command finds no fault in what a source has left
 abbrev pub Accepts : Command → Option (List ℕ) → Type 0
@@ -286,6 +282,15 @@ play_fault_text (play.NothingPending at pass) = codes "nothing pending at " ++ d
 play_fault_text (play.Unfinished pass) = codes "unfinished pass " ++ decimal pass
 play_fault_text play.NoMemory = codes "no memory"
 
+-- a fault of a text of takes
+abbrev pub takes_text : ThrottleFault → List ℕ
+takes_text (takes.Fields at) = codes "fields at " ++ decimal at
+takes_text (takes.Worker at) = codes "worker at " ++ decimal at
+takes_text (takes.Amount at) = codes "amount at " ++ decimal at
+takes_text (takes.TooMany at) = codes "too many at " ++ decimal at
+takes_text (takes.Total at) = codes "total at " ++ decimal at
+takes_text takes.NoMemory = codes "no memory"
+
 -- why input is refused
 abbrev pub refusal_text : Refusal → List ℕ
 refusal_text TooLong = codes "too long"
@@ -294,11 +299,12 @@ refusal_text (ByTrace fault) = trace_text fault
 refusal_text (TooManyLines at) = codes "too many at " ++ decimal at
 refusal_text (ByPlay fault) = play_fault_text fault
 refusal_text (ByOrder at) = codes "op at " ++ decimal at
+refusal_text (ByThrottle fault) = takes_text fault
 
 -- the line of an ending on standard error
 abbrev pub error_line : Ending → List ℕ
 error_line Done = []
-error_line Words = codes "usage: funnel_tool play | trial | replay WORKERS | drill SEED ROWS WORKERS | relay WORKERS CAPACITY | rounds | tally WORKERS GRAIN\n"
+error_line Words = codes "usage: funnel_tool play | trial | replay WORKERS | drill SEED ROWS WORKERS | relay WORKERS CAPACITY | rounds | tally WORKERS GRAIN | throttle WORKERS BURST RATE PERIOD\n"
 error_line (Refused why) = codes "refused: " ++ refusal_text why ++ codes "\n"
 error_line ReadFailed = codes "read failed\n"
 error_line WriteFailed = codes "write failed\n"

@@ -1,5 +1,5 @@
 -- What the parts of a run give to each other: the bytes that were read, a text or how the run ends without one, and the outcome.
-use Rattle.std.specs.Prelude.{◌≡◌, ℕ, ◌<◌, List, [], ◌∷◌, length, Option, Some, None, Result, Ok, Err, Vec}
+use Rattle.std.specs.Prelude.{◌≡◌, ℕ, ◌<◌, List, [], length, Option, Some, Result, Ok, Err, Vec}
 use Rattle.std.specs.declared.alloc.Global.{Global}
 use Rattle.std.specs.Io.KnownBytes.{Consumes}
 use Rattle.edge_io.specs.Causes.{Rose}
@@ -8,7 +8,9 @@ use Rattle.trace_text.specs.Script.{script_of, content}
 use Rattle.trace_text.specs.Sound.{IsSound}
 use Rattle.trace_text.specs.declared.scripts.Script.{Script}
 use Rattle.tool_words.specs.declared.commands.Command.{Command}
-use Rattle.funnel_tool.specs.Outcome.{Input, Output, Reads, ReadsAll, Refuses, Stops, Tells, Writes, WritesNothing}
+use Rattle.funnel_tool.specs.Handed.{handed, handed_by, nothing, one_book}
+use Rattle.funnel_tool.specs.Accounts.{Accounts, RefusesWith, StopsWith}
+use Rattle.funnel_tool.specs.Outcome.{Input, Output, Reads, ReadsAll, Refuses, Stops, Writes, WritesNothing}
 use Rattle.funnel_tool.specs.declared.ending.Ending.{Ending}
 use Rattle.funnel_tool.specs.declared.ending.Ending.TheVariants.{Refused, ReadFailed, NoMemory}
 use Rattle.funnel_tool.specs.declared.ending.Refusal.TheVariants.{TooLong, ByScript}
@@ -31,18 +33,18 @@ HasScript bytes (Err untold) = IsUnread bytes untold.ending untold.halted.items
 
 -- a text with one book, unless memory ran out
 abbrev pub HasBook : List ℕ → CoreLog → Result Told Untold → Type 0
-HasBook text book (Ok told) = (told.text.items ≡ text) × (told.answers.items ≡ []) × (told.books.items ≡ book ∷ []) × (told.queue ≡ None)
+HasBook text book (Ok told) = (told.text.items ≡ text) × (handed told.handed ≡ one_book book)
 HasBook text book (Err untold) = (untold.ending ≡ NoMemory) × (untold.halted.items ≡ [])
 
 -- input that was read has no text: it is refused, or memory ran out
 abbrev pub CantTell : Command → List ℕ → Ending → List Caller → Type 0
-CantTell command bytes (Refused why) callers = Refuses command bytes why callers
+CantTell command bytes (Refused why) callers = Refuses command bytes why × RefusesWith command bytes why callers
 CantTell command bytes NoMemory callers = callers ≡ []
 CantTell command bytes _ callers = ⊥
 
 -- the text of a command with this input
 abbrev pub IsTelling : Command → List ℕ → Result Told Untold → Type 0
-IsTelling command bytes (Ok told) = Tells command bytes told.text.items told.answers.items told.books.items told.queue
+IsTelling command bytes (Ok told) = Accounts command bytes told.text.items (handed told.handed)
 IsTelling command bytes (Err untold) = CantTell command bytes untold.ending untold.halted.items
 
 -- input that wasn't read
@@ -59,12 +61,12 @@ HasRead input (Err untold) = CantRead input untold.ending × (untold.halted.item
 
 -- the text of what is asked for, from its input
 abbrev pub IsPrepared : Option Command → Input → Result Told Untold → Type 0
-IsPrepared asked input (Ok told) = (command : Command) × (bytes : List ℕ) × (asked ≡ Some command) × Reads command input bytes × Tells command bytes told.text.items told.answers.items told.books.items told.queue
-IsPrepared asked input (Err untold) = Stops asked input untold.ending untold.halted.items
+IsPrepared asked input (Ok told) = (command : Command) × (bytes : List ℕ) × (asked ≡ Some command) × Reads command input bytes × Accounts command bytes told.text.items (handed told.handed)
+IsPrepared asked input (Err untold) = Stops asked input untold.ending × StopsWith asked input untold.ending untold.halted.items
 
 -- what was prepared is written and handed back
 abbrev pub Finishes : Result Told Untold → Output → Outcome → Ending → Type 0
 Finishes (Ok told) output outcome ending =
-    Writes output told.text.items ending × (outcome.answers.items ≡ told.answers.items) × (outcome.books.items ≡ told.books.items) × (outcome.queue ≡ told.queue) × (outcome.halted.items ≡ [])
+    Writes output told.text.items ending × (handed_by outcome ≡ handed told.handed) × (outcome.halted.items ≡ [])
 Finishes (Err untold) output outcome ending =
-    (ending ≡ untold.ending) × WritesNothing output × (outcome.answers.items ≡ []) × (outcome.books.items ≡ []) × (outcome.queue ≡ None) × (outcome.halted.items ≡ untold.halted.items)
+    (ending ≡ untold.ending) × WritesNothing output × (handed_by outcome ≡ nothing) × (outcome.halted.items ≡ untold.halted.items)

@@ -10,7 +10,6 @@ use Rattle.std.specs.List.{All}
 use Rattle.running.specs.Running.{upto}
 use Rattle.fn_model.specs.declared.Kind.{Kind}
 use Rattle.fn_model.specs.declared.Kind.TheVariants.{Add, Sub, Read}
-use Rattle.fn_model.specs.Calls.{own}
 use Rattle.fn_model.specs.Integer.{value}
 use Rattle.fn_core.specs.declared.Move.TheVariants.{Load, Direct, Glance}
 use Rattle.fn_core.specs.declared.Purpose.TheVariants as purpose
@@ -37,7 +36,7 @@ use Rattle.funnel_tool.specs.declared.play.PlayFault.{PlayFault}
 use Rattle.funnel_tool.specs.declared.play.PlayFault.TheVariants.{Unfinished, NoMemory}
 use Rattle.funnel_tool.specs.Lines.{answers_text}
 use Rattle.funnel_tool.specs.Play.{fault_by, least_busy, opened_core, told_answer}
-use Rattle.funnel_tool.specs.Replies.{AreMet, calls_made}
+use Rattle.funnel_tool.specs.Answered.{IsAnswered}
 
 -- what a caller has seen
 abbrev pub seen_of : Caller → PassView
@@ -125,7 +124,7 @@ stop_at passes callers [] = option_map Unfinished (least_busy (rests_in callers)
 abbrev pub first_callers : TableView → List Caller
 first_callers t = map Idle (fresh_passes t)
 
--- A run of a script on a table to its end: the passes did all lines, and the table was closed. Each reply is what its call meets in the book's history, which has exactly the calls that the lines make
+-- A run of a script on a table to its end: the passes did all lines, and the table was closed. The answers tell of the book's history
 pub record IsTrial (script : Script) (answers : List LineAnswer) (book : CoreLog) : Type 0 where
   pub table : TableView
   pub opens : table.start ≡ (opened_core script).start
@@ -135,9 +134,7 @@ pub record IsTrial (script : Script) (answers : List LineAnswer) (book : CoreLog
   pub done : AreDone (first_callers table) script.lines answers (map Idle passes)
   pub start : book.start ≡ table.start
   pub closed : IsClosed passes book
-  pub met : AreMet (opened_core script).start (calls_in book) [] script.lines answers
-  -- each pass's calls stand in the history in the order of its lines, and no others
-  pub made : (pass : ℕ) → own pass (calls_in book) ≡ own pass (calls_made [] script.lines answers)
+  pub told : IsAnswered script answers (value no_cap script.opening (calls_in book)) (calls_in book)
 
 -- the text is that of such a run, with the value of the book
 abbrev pub TellsTrial : Script → List ℕ → CoreLog → Type 0

@@ -1,10 +1,11 @@
 //! How a run ends: its status, and its line on standard error, which takes no memory.
 ghost use Rattle.std.specs.Prelude.{◌≡◌, ◌≤◌, ◌+◌, ◌++◌, [], codes, decimal, length, take};
-ghost use Rattle.funnel_tool.specs.Outcome.{error_line, play_fault_text, refusal_text, script_text, shape_text, status_of, trace_text};
+ghost use Rattle.funnel_tool.specs.Outcome.{error_line, play_fault_text, refusal_text, script_text, shape_text, status_of, takes_text, trace_text};
 
 use crate::play::PlayFault;
 use itoa::Buffer;
 use std::marker::Model;
+use throttle_run::ThrottleFault;
 use trace_text::{ScriptFault, ShapeFault, TraceFault};
 
 /// The most bytes that are read.
@@ -20,6 +21,7 @@ pub enum Refusal {
     TooManyLines { at: u64 },
     /// an order that isn't an addition or a subtraction
     ByOrder { at: u64 },
+    ByThrottle(ThrottleFault),
 }
 
 /// How a run ends.
@@ -67,9 +69,9 @@ impl Ending {
 }
 
 static USAGE: &[u8] =
-    b"usage: funnel_tool play | trial | replay WORKERS | drill SEED ROWS WORKERS | relay WORKERS CAPACITY | rounds | tally WORKERS GRAIN\n";
+    b"usage: funnel_tool play | trial | replay WORKERS | drill SEED ROWS WORKERS | relay WORKERS CAPACITY | rounds | tally WORKERS GRAIN | throttle WORKERS BURST RATE PERIOD\n";
 
-const ROOM: usize = 160;
+const ROOM: usize = 200;
 
 /// A line in a place of fixed size.
 #[derive(Drop)]
@@ -177,6 +179,7 @@ fn push_refusal(line: &mut ErrorLine, why: Refusal)
         Refusal::ByTrace(fault) => push_trace_fault(line, fault),
         Refusal::TooManyLines { at } => line.push_counted(b"too many at ", at),
         Refusal::ByOrder { at } => line.push_counted(b"op at ", at),
+        Refusal::ByThrottle(fault) => push_takes_fault(line, fault),
     }
 }
 
@@ -216,6 +219,21 @@ fn push_trace_fault(line: &mut ErrorLine, fault: TraceFault)
         TraceFault::Total { at } => line.push_counted(b"total at ", at),
         TraceFault::NoMemory => line.push(b"no memory"),
         TraceFault::Cap { at } => line.push_counted(b"cap at ", at),
+    }
+}
+
+fn push_takes_fault(line: &mut ErrorLine, fault: ThrottleFault)
+    requires { length line.old ≤ 10 }
+    ensures exact { line.new ≡ line.old ++ takes_text fault }
+    ensures short { length line.new ≤ length line.old + 120 }
+{
+    match fault {
+        ThrottleFault::Fields { at } => line.push_counted(b"fields at ", at),
+        ThrottleFault::Worker { at } => line.push_counted(b"worker at ", at),
+        ThrottleFault::Amount { at } => line.push_counted(b"amount at ", at),
+        ThrottleFault::TooMany { at } => line.push_counted(b"too many at ", at),
+        ThrottleFault::Total { at } => line.push_counted(b"total at ", at),
+        ThrottleFault::NoMemory => line.push(b"no memory"),
     }
 }
 

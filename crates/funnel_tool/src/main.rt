@@ -2,10 +2,15 @@
 #![tactic(auto)]
 
 mod ending;
+mod handed;
+#[cfg(test)]
+mod handed_tests;
 mod lines;
 mod on_table;
 mod play;
 mod run;
+#[cfg(test)]
+mod takes_tests;
 mod telling;
 #[cfg(test)]
 mod tests;

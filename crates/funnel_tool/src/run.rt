@@ -4,17 +4,21 @@ ghost use Rattle.edge_io.specs.Causes.{Rose};
 ghost use Rattle.edge_io.specs.Whole.{AppendsFront};
 ghost use Rattle.tool_words.specs.Asked.{InRange, asked};
 ghost use Rattle.funnel_tool.specs.declared.ending.Ending.{Ending};
+ghost use Rattle.funnel_tool.specs.Accounts.{IsAccounted};
+ghost use Rattle.funnel_tool.specs.Handed as back;
 ghost use Rattle.funnel_tool.specs.Outcome.{Ends, IsComplete, Writes, error_line, of_scripts, reading, status_of, writing};
 ghost use Rattle.funnel_tool.specs.Telling.{Finishes, HasRead, IsPrepared};
 
 use crate::ending::{Ending, INPUT_LIMIT, Refusal};
+use crate::handed::Handed;
 use crate::telling::{
     Told, Untold, tell_drill, tell_play, tell_relay, tell_replay, tell_rounds, tell_tally,
-    tell_trial,
+    tell_throttle, tell_trial,
 };
 use crate::trial::Caller;
 use edge_io::{ReadFault, Sink, Source, WriteFault, read_all, write_all};
 use fn_table::Book;
+use quota_bucket::BucketBook;
 use quota_pool::Moved;
 use relay_run::QueueBook;
 use replay_run::Gate;
@@ -28,12 +32,14 @@ use tool_words::{Command, read_command};
 #[derive(Drop)]
 pub struct Outcome {
     pub status: u8,
-    /// the book of a trial, or the books of a replay
+    /// the books of a replay, or the one book of a trial, of calls in turns or of a tally
     pub books: Vec<Book>,
     /// the answers of a replay
     pub answers: Vec<Moved>,
     /// the book of a relay's queue
     pub queue: Option<QueueBook<u64>>,
+    /// the book of a bucket through which lines of takes went
+    pub bucket: Option<BucketBook>,
     /// the callers of the table on which a line of a script couldn't be done
     pub halted: Vec<Caller>,
 }
@@ -47,8 +53,10 @@ pub fn run_play<S: Source, K: Sink, E: Sink>(
     err: &mut E,
 ) -> Outcome
     ensures ends { (ending : Ending) × (status_of ending ≡ result.status)
-        × Ends (of_scripts (asked words.now)) (reading (S.left source.old) (S.left source.new) (S.faults source.old) (S.faults source.new)) (writing (K.held out.old) (K.held out.new) (K.faults out.old) (K.faults out.new) (K.empty_writes out.old) (K.empty_writes out.new)) result ending
+        × Ends (of_scripts (asked words.now)) (reading (S.left source.old) (S.left source.new) (S.faults source.old) (S.faults source.new)) (writing (K.held out.old) (K.held out.new) (K.faults out.old) (K.faults out.new) (K.empty_writes out.old) (K.empty_writes out.new)) result.answers.items ending
         × AppendsFront (E.held err.old) (E.held err.new) (error_line ending) (Rose (E.faults err.old) (E.faults err.new) ⊎ Rose (E.empty_writes err.old) (E.empty_writes err.new)) }
+    ensures account { (ending : Ending) × (status_of ending ≡ result.status)
+        × IsAccounted (of_scripts (asked words.now)) (reading (S.left source.old) (S.left source.new) (S.faults source.old) (S.faults source.new)) (writing (K.held out.old) (K.held out.new) (K.faults out.old) (K.faults out.new) (K.empty_writes out.old) (K.empty_writes out.new)) result ending }
     ensures complete { IsComplete (of_scripts (asked words.now)) (reading (S.left source.old) (S.left source.new) (S.faults source.old) (S.faults source.new)) (writing (K.held out.old) (K.held out.new) (K.faults out.old) (K.faults out.new) (K.empty_writes out.old) (K.empty_writes out.new)) result }
     ensures quiet { result.status ≡ 0 → err.new ≡ err.old }
     ensures later_read { S.faults source.old ≤ S.faults source.new }
@@ -59,7 +67,7 @@ pub fn run_play<S: Source, K: Sink, E: Sink>(
     finish(alloc, out, err, told)
 }
 
-/// Reads words and input, does what they ask for, and writes its text, and a line to `err` where that didn't go well. It waits for the workers of a replay or of a relay, who ask the gate before and after each row or line.
+/// Reads words and input, does what they ask for, and writes its text, and a line to `err` where that didn't go well. It waits for the workers of a command, who ask the gate before and after each row of a replay and each line of a relay or of takes.
 pub fn run<
     R: Threads + Wait + Sync + RandomSource + AllocGlobal,
     S: Source,
@@ -76,8 +84,10 @@ pub fn run<
     gate: &G,
 ) -> Outcome
     ensures ends { (ending : Ending) × (status_of ending ≡ result.status)
-        × Ends (asked words.now) (reading (S.left source.old) (S.left source.new) (S.faults source.old) (S.faults source.new)) (writing (K.held out.old) (K.held out.new) (K.faults out.old) (K.faults out.new) (K.empty_writes out.old) (K.empty_writes out.new)) result ending
+        × Ends (asked words.now) (reading (S.left source.old) (S.left source.new) (S.faults source.old) (S.faults source.new)) (writing (K.held out.old) (K.held out.new) (K.faults out.old) (K.faults out.new) (K.empty_writes out.old) (K.empty_writes out.new)) result.answers.items ending
         × AppendsFront (E.held err.old) (E.held err.new) (error_line ending) (Rose (E.faults err.old) (E.faults err.new) ⊎ Rose (E.empty_writes err.old) (E.empty_writes err.new)) }
+    ensures account { (ending : Ending) × (status_of ending ≡ result.status)
+        × IsAccounted (asked words.now) (reading (S.left source.old) (S.left source.new) (S.faults source.old) (S.faults source.new)) (writing (K.held out.old) (K.held out.new) (K.faults out.old) (K.faults out.new) (K.empty_writes out.old) (K.empty_writes out.new)) result ending }
     ensures complete { IsComplete (asked words.now) (reading (S.left source.old) (S.left source.new) (S.faults source.old) (S.faults source.new)) (writing (K.held out.old) (K.held out.new) (K.faults out.old) (K.faults out.new) (K.empty_writes out.old) (K.empty_writes out.new)) result }
     ensures quiet { result.status ≡ 0 → err.new ≡ err.old }
     ensures later_read { S.faults source.old ≤ S.faults source.new }
@@ -134,7 +144,8 @@ fn tell_script<S: Source>(alloc: Global, command: Command, source: &mut S) -> Re
         | Command::Drill { .. }
         | Command::Relay { .. }
         | Command::Rounds
-        | Command::Tally { .. } => Err(Untold::new(alloc, Ending::Words)),
+        | Command::Tally { .. }
+        | Command::Throttle { .. } => Err(Untold::new(alloc, Ending::Words)),
     }
 }
 
@@ -174,6 +185,15 @@ fn tell_command<R: Threads + Wait + Sync + RandomSource + AllocGlobal, S: Source
         Command::Tally { workers, grain } => {
             tell_tally(rt, alloc, workers, grain, &read_input(alloc, source)?)
         }
+        Command::Throttle {
+            workers,
+            burst,
+            rate,
+            period,
+        } => {
+            let bytes = read_input(alloc, source)?;
+            tell_throttle(rt, alloc, workers, burst, rate, period, &bytes, gate)
+        }
     }
 }
 
@@ -208,32 +228,37 @@ fn finish<K: Sink, E: Sink>(
 {
     match told {
         Ok(told) => {
-            let Told {
-                text,
-                answers,
-                books,
-                queue,
-            } = told;
+            let Told { text, handed } = told;
             let ending = write_text(out, &text);
             tell(err, ending);
-            Outcome {
-                status: ending.status(),
-                books,
-                answers,
-                queue,
-                halted: Vec::new(alloc),
-            }
+            hand_back(ending.status(), handed, Vec::new(alloc))
         }
         Err(Untold { ending, halted }) => {
             tell(err, ending);
-            Outcome {
-                status: ending.status(),
-                books: Vec::new(alloc),
-                answers: Vec::new(alloc),
-                queue: None,
-                halted,
-            }
+            hand_back(ending.status(), Handed::nothing(alloc), halted)
         }
+    }
+}
+
+// Hands back what a run had, with its status.
+fn hand_back(status: u8, handed: Handed, halted: Vec<Caller>) -> Outcome
+    ensures status { result.status ≡ status }
+    ensures given { back.handed_by result ≡ back.handed handed }
+    ensures halted { result.halted.items ≡ halted.items }
+{
+    let Handed {
+        answers,
+        books,
+        queue,
+        bucket,
+    } = handed;
+    Outcome {
+        status,
+        books,
+        answers,
+        queue,
+        bucket,
+        halted,
     }
 }
 

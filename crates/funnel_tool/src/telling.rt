@@ -1,29 +1,32 @@
 //! The text of each command, from the bytes of its input.
-ghost use Rattle.std.specs.Prelude.{◌≡◌, ◌≤◌, [], IfOk, None, length, map};
+ghost use Rattle.std.specs.Prelude.{◌≡◌, ◌≤◌, [], IfOk, length, map};
+ghost use Rattle.fn_model.specs.declared.TheConstants.{NO_CAP};
 ghost use Rattle.replay_run.specs.Replay.{value_in};
 ghost use Rattle.trace_text.specs.Drill.{drill};
 ghost use Rattle.trace_text.specs.SoundTrace.{IsSoundTrace};
 ghost use Rattle.trace_text.specs.Trace.{content};
 ghost use Rattle.tool_words.specs.declared.commands.Command.TheVariants as command;
 ghost use Rattle.relay_run.specs.declared.lines.TheConstants.{MOST_LINES};
-ghost use Rattle.funnel_tool.specs.Outcome.{HasRelayed, IsReport, IsSummary};
+ghost use Rattle.funnel_tool.specs.Handed.{handed};
+ghost use Rattle.funnel_tool.specs.Accounts.{HasRelayed, IsReport, IsSummary};
 ghost use Rattle.funnel_tool.specs.declared.ending.TheConstants.{INPUT_LIMIT};
 ghost use Rattle.funnel_tool.specs.Telling.{HasBook, HasScript, IsTelling};
 
 use crate::ending::{Ending, Refusal};
+use crate::handed::Handed;
 use crate::play::{PlayFault, play_script};
 use crate::trial::{Caller, trial_script};
 use fn_rounds::{other_order, rounds_text};
 use fn_spread::tally_text;
 use fn_table::Book;
-use quota_pool::Moved;
-use relay_run::{Lines, LinesFault, QueueBook, Relayed, relay, relay_text, split_lines};
+use relay_run::{Lines, LinesFault, Relayed, relay, relay_text, split_lines};
 use replay_report::{report_text, summary_text};
 use replay_run::{Gate, Replayed, replay};
 use std::alloc::{AllocError, AllocGlobal, Global};
 use std::random::RandomSource;
 use std::sync::Wait;
 use std::thread::Threads;
+use throttle_run::{ThrottleFault, throttle_text};
 use trace_text::{
     NoMemory, Script, ScriptFault, Trace, TraceFault, make_drill, read_script, read_trace,
 };
@@ -32,9 +35,7 @@ use trace_text::{
 #[derive(Drop)]
 pub struct Told {
     pub text: Vec<u8>,
-    pub answers: Vec<Moved>,
-    pub books: Vec<Book>,
-    pub queue: Option<QueueBook<u64>>,
+    pub handed: Handed,
 }
 
 /// How a run ends that has no text, and the callers of a table on which a line of a script can't be done.
@@ -67,9 +68,7 @@ pub fn tell_play(alloc: Global, bytes: &[u8]) -> Result<Told, Untold>
     match play_script(alloc, &script) {
         Ok(text) => Ok(Told {
             text,
-            answers: Vec::new(alloc),
-            books: Vec::new(alloc),
-            queue: None,
+            handed: Handed::nothing(alloc),
         }),
         Err(PlayFault::NoMemory) => Err(Untold::new(alloc, Ending::NoMemory)),
         Err(fault) => Err(Untold::new(alloc, Ending::Refused(Refusal::ByPlay(fault)))),
@@ -95,14 +94,8 @@ pub fn tell_trial(alloc: Global, bytes: &[u8]) -> Result<Told, Untold>
 fn tell_book(alloc: Global, text: Vec<u8>, book: Book) -> Result<Told, Untold>
     ensures { HasBook text.items book result }
 {
-    let mut books = Vec::new(alloc);
-    match books.push(book) {
-        Ok(()) => Ok(Told {
-            text,
-            answers: Vec::new(alloc),
-            books,
-            queue: None,
-        }),
+    match Handed::book(alloc, book) {
+        Ok(handed) => Ok(Told { text, handed }),
         Err(_) => Err(Untold::new(alloc, Ending::NoMemory)),
     }
 }
@@ -149,17 +142,14 @@ fn report<R: Threads + Wait + Sync, G: Gate + Sync>(
 ) -> Result<Told, NoMemory>
     requires workers { (1 ≤ workers) × (workers ≤ 64) }
     requires sound { IsSoundTrace workers (content trace.now) }
-    ensures told { IfOk result (λ told. IsReport workers (content trace.now) told.text.items told.answers.items told.books.items) }
-    ensures no_queue { IfOk result (λ told. told.queue ≡ None) }
+    ensures { IfOk result (λ told. IsReport workers (content trace.now) told.text.items (handed told.handed)) }
 {
     let Replayed { answers, books } = replay(rt, alloc, trace, workers, gate)?;
     let finals = values_of(alloc, &books)?;
     let text = report_text(alloc, trace, &answers, &finals)?;
     Ok(Told {
         text,
-        answers,
-        books,
-        queue: None,
+        handed: Handed::replayed(answers, books),
     })
 }
 
@@ -195,8 +185,7 @@ fn sum_up<R: Threads + Wait + Sync, G: Gate + Sync>(
     requires seed { seed ≤ 1000000 }
     requires rows { (1 ≤ rows) × (rows ≤ 1000000) }
     requires workers { (1 ≤ workers) × (workers ≤ 64) }
-    ensures told { IfOk result (λ told. IsSummary workers (drill seed rows workers) told.text.items told.answers.items told.books.items) }
-    ensures no_queue { IfOk result (λ told. told.queue ≡ None) }
+    ensures { IfOk result (λ told. IsSummary workers (drill seed rows workers) told.text.items (handed told.handed)) }
 {
     let trace = make_drill(alloc, seed, rows, workers)?;
     let Replayed { answers, books } = replay(rt, alloc, &trace, workers, gate)?;
@@ -204,9 +193,7 @@ fn sum_up<R: Threads + Wait + Sync, G: Gate + Sync>(
     let text = summary_text(alloc, &trace, workers, &answers, &finals)?;
     Ok(Told {
         text,
-        answers,
-        books,
-        queue: None,
+        handed: Handed::replayed(answers, books),
     })
 }
 
@@ -248,16 +235,14 @@ fn relay_lines<R: Threads + Wait + Sync, G: Gate + Sync>(
     requires lines { length lines.now ≤ MOST_LINES }
     requires workers { (1 ≤ workers) × (workers ≤ 64) }
     requires capacity { (1 ≤ capacity) × (capacity ≤ 65536) }
-    ensures { IfOk result (λ told. HasRelayed workers capacity lines.now told.text.items told.answers.items told.books.items told.queue) }
+    ensures { IfOk result (λ told. HasRelayed workers capacity lines.now told.text.items (handed told.handed)) }
 {
     let count = lines.count() as u64;
     let Relayed { order, book } = relay(rt, alloc, count, workers, capacity, gate)?;
     let text = relay_text(alloc, lines, &order)?;
     Ok(Told {
         text,
-        answers: Vec::new(alloc),
-        books: Vec::new(alloc),
-        queue: Some(book),
+        handed: Handed::queue(alloc, book),
     })
 }
 
@@ -295,6 +280,43 @@ pub fn tell_tally<R: Threads + Wait + Sync>(
     match tally_text(rt, alloc, bytes, workers, grain) {
         Ok((text, book)) => tell_book(alloc, text, book),
         Err(_) => Err(Untold::new(alloc, Ending::NoMemory)),
+    }
+}
+
+/// Lets lines of takes through a bucket.
+pub fn tell_throttle<R: Threads + Wait + Sync, G: Gate + Sync>(
+    rt: &R,
+    alloc: Global,
+    workers: u32,
+    burst: u64,
+    rate: u64,
+    period: u64,
+    bytes: &[u8],
+    gate: &G,
+) -> Result<Told, Untold>
+    requires workers { (1 ≤ workers) × (workers ≤ 64) }
+    requires burst { (1 ≤ burst) × (burst ≤ NO_CAP) }
+    requires rate { 1 ≤ rate }
+    requires period { 1 ≤ period }
+    ensures { IsTelling (command.Throttle workers burst rate period) bytes.now result }
+{
+    match throttle_text(
+        rt,
+        alloc,
+        bytes,
+        workers,
+        burst,
+        rate,
+        period,
+        &|worker, place| gate.before(worker, place),
+        &|worker, place| gate.answered(worker, place),
+    ) {
+        Ok((text, book)) => Ok(Told {
+            text,
+            handed: Handed::bucket(alloc, book),
+        }),
+        Err(ThrottleFault::NoMemory) => Err(Untold::new(alloc, Ending::NoMemory)),
+        Err(fault) => Err(Untold::new(alloc, Ending::Refused(Refusal::ByThrottle(fault)))),
     }
 }
 

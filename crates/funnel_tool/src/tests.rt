@@ -2,7 +2,6 @@
 use super::*;
 use crate::run::{Outcome, run_play};
 use edge_io::{MemSink, MemSource};
-use quota_pool::Moved;
 use std::alloc::Global;
 use std::test::Fail;
 
@@ -578,13 +577,12 @@ pub(crate) fn input_of(rt: &HostRuntime, row: Row) -> Result<Vec<u8>, Fail> {
     Ok(input)
 }
 
-/// What a run came to: its status, what was written, and its answers.
+/// What a run came to: what it handed back, and what was written.
 #[derive(Drop)]
 pub(crate) struct Ran {
-    pub(crate) status: u8,
+    pub(crate) outcome: Outcome,
     pub(crate) text: Vec<u8>,
     pub(crate) line: Vec<u8>,
-    pub(crate) answers: Vec<Moved>,
 }
 
 impl Ran {
@@ -595,15 +593,16 @@ impl Ran {
         err: &MemSink,
     ) -> Result<Ran, Fail> {
         Ok(Ran {
-            status: outcome.status,
+            outcome,
             text: Vec::from_slice(alloc, out.held())?,
             line: Vec::from_slice(alloc, err.held())?,
-            answers: outcome.answers,
         })
     }
 
     pub(crate) fn is(&self, status: u8, text: &[u8], line: &[u8]) -> bool {
-        self.status == status && self.text.as_slice() == text && self.line.as_slice() == line
+        self.outcome.status == status
+            && self.text.as_slice() == text
+            && self.line.as_slice() == line
     }
 }
 
@@ -711,7 +710,7 @@ fn status_of_words(rt: &HostRuntime, line: &str) -> Result<u8, Fail> {
     let source = MemSource::new(rt.alloc(), SCRIPT.as_bytes(), 7, &[])?;
     let out = MemSink::new(rt.alloc(), 1000, 10, &[])?;
     let err = MemSink::new(rt.alloc(), 1000, 100, &[])?;
-    Ok(run_script(rt, line, source, out, err)?.status)
+    Ok(run_script(rt, line, source, out, err)?.outcome.status)
 }
 
 #[test]

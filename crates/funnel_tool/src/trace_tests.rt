@@ -29,8 +29,8 @@ const DISK: &str = "0,open,disk,10\n0,take,disk,4\n0,take,disk,9\n0,add,disk,3\n
 
 const LINES: &str = "row,2,10,4\nrow,3,6,6\nrow,4,0,3\nrow,5,3,0\ntotal,disk,10,3,10,3\n";
 
-const USAGE: &str =
-    "usage: funnel_tool play | trial | replay WORKERS | drill SEED ROWS WORKERS | relay WORKERS CAPACITY | rounds | tally WORKERS GRAIN\n";
+pub(crate) const USAGE: &str =
+    "usage: funnel_tool play | trial | replay WORKERS | drill SEED ROWS WORKERS | relay WORKERS CAPACITY | rounds | tally WORKERS GRAIN | throttle WORKERS BURST RATE PERIOD\n";
 
 static ROWS: [Row; 55] = [
     // a take meets less than its amount
@@ -500,7 +500,7 @@ fn trace_of(rt: &HostRuntime, first: &str, records: &str) -> Result<Vec<u8>, Fai
 }
 
 // Runs a command.
-fn run_words<R: Threads + Wait + Sync + RandomSource + AllocGlobal, G: Gate + Sync>(
+pub(crate) fn run_words<R: Threads + Wait + Sync + RandomSource + AllocGlobal, G: Gate + Sync>(
     rt: &R,
     words: &[String],
     mut source: MemSource,
@@ -543,7 +543,7 @@ fn each_write_may_fail(rt: HostRuntime) -> Result<(), Fail> {
         } else {
             (0, 62, "")
         };
-        assert_eq!(rt; ran.status, status);
+        assert_eq!(rt; ran.outcome.status, status);
         assert_eq!(rt; ran.text.len() as u64, held);
         assert!(rt; LINES.as_bytes().starts_with(&ran.text));
         assert_eq!(rt; ran.line.as_slice(), line.as_bytes());
@@ -560,11 +560,11 @@ fn each_read_may_fail(rt: HostRuntime) -> Result<(), Fail> {
         let source = MemSource::new(rt.alloc(), &bytes, 16, &[read])?;
         let out = MemSink::new(rt.alloc(), 1000, 100, &[])?;
         let ran = run_words(&rt, &words, source, out, &OpenGate)?;
-        if ran.status == 0 {
+        if ran.outcome.status == 0 {
             all_read = true;
         } else {
             assert!(rt; !all_read);
-            assert_eq!(rt; ran.status, 4);
+            assert_eq!(rt; ran.outcome.status, 4);
             assert_eq!(rt; ran.text.len(), 0);
             assert_eq!(rt; ran.line.as_slice(), b"read failed\n".as_slice());
         }
@@ -599,10 +599,10 @@ fn four_workers_add_up(rt: HostRuntime) -> Result<(), Fail> {
     let source = MemSource::new(rt.alloc(), &bytes, 4096, &[])?;
     let out = MemSink::new(rt.alloc(), 1_000_000, 1_000_000, &[])?;
     let ran = run_words(&rt, &words, source, out, &OpenGate)?;
-    assert_eq!(rt; ran.status, 0);
+    assert_eq!(rt; ran.outcome.status, 0);
     assert!(rt; ran.text.ends_with(b"\ntotal,d,0,4000,0,4000\n".as_slice()));
-    assert!(rt; ran.answers.iter().all(|answer| answer.moved == 1));
-    let befores = befores_of(rt.alloc(), &ran.answers)?;
+    assert!(rt; ran.outcome.answers.iter().all(|answer| answer.moved == 1));
+    let befores = befores_of(rt.alloc(), &ran.outcome.answers)?;
     assert_eq!(rt; befores.len(), 4000);
     for (i, before) in befores.iter().enumerate() {
         assert_eq!(rt; *before, i as u64);
@@ -612,14 +612,14 @@ fn four_workers_add_up(rt: HostRuntime) -> Result<(), Fail> {
 
 // A gate at which the first two rows wait until both have begun, and the first then until the second is answered.
 #[derive(Drop)]
-struct Crossing {
+pub(crate) struct Crossing {
     begun: [AtomicBool; 2],
     answered: AtomicBool,
-    gave_up: AtomicBool,
+    pub(crate) gave_up: AtomicBool,
 }
 
 impl Crossing {
-    fn new() -> Crossing {
+    pub(crate) fn new() -> Crossing {
         Crossing {
             begun: [AtomicBool::new(false), AtomicBool::new(false)],
             answered: AtomicBool::new(false),
@@ -669,7 +669,7 @@ fn workers_run_beside_each_other(rt: HostRuntime) -> Result<(), Fail> {
     let source = MemSource::new(rt.alloc(), &bytes, 100, &[])?;
     let out = MemSink::new(rt.alloc(), 1000, 100, &[])?;
     let ran = run_words(&rt, &words, source, out, &gate)?;
-    assert_eq!(rt; ran.status, 0);
+    assert_eq!(rt; ran.outcome.status, 0);
     assert!(rt; !gate.gave_up.load(Ordering::SeqCst));
     assert_eq!(rt;
         ran.text.as_slice(),
@@ -685,7 +685,7 @@ fn lines_cross(rt: HostRuntime) -> Result<(), Fail> {
     let source = MemSource::new(rt.alloc(), b"a\nb\n", 100, &[])?;
     let out = MemSink::new(rt.alloc(), 1000, 100, &[])?;
     let ran = run_words(&rt, &words, source, out, &gate)?;
-    assert_eq!(rt; ran.status, 0);
+    assert_eq!(rt; ran.outcome.status, 0);
     assert!(rt; !gate.gave_up.load(Ordering::SeqCst));
     assert_eq!(rt; ran.text.as_slice(), b"0 b\n1 a\n".as_slice());
     Ok(())
@@ -698,7 +698,7 @@ fn too_many_lines_are_refused(rt: HostRuntime) -> Result<(), Fail> {
     let source = MemSource::new(rt.alloc(), &bytes, 65_536, &[])?;
     let out = MemSink::new(rt.alloc(), 1000, 100, &[])?;
     let ran = run_words(&rt, &words, source, out, &OpenGate)?;
-    assert_eq!(rt; ran.status, 3);
+    assert_eq!(rt; ran.outcome.status, 3);
     assert_eq!(rt; ran.text.len(), 0);
     assert_eq!(rt;
         ran.line.as_slice(),

@@ -1,5 +1,5 @@
 use Rattle.std.proofs.Common.{Some, refl, ap, []}
-use Rattle.tool_words.specs.declared.commands.Command.TheVariants.{Replay, Drill, Relay, Rounds, Tally}
+use Rattle.tool_words.specs.declared.commands.Command.TheVariants.{Replay, Drill, Relay, Rounds, Tally, Throttle}
 use Rattle.funnel_tool.specs.Outcome.{reading}
 use Rattle.funnel_tool.proofs.Preparing.{telling-prepared}
 use Rattle.funnel_tool.proofs.run.tell_command.Goals as goal
@@ -28,3 +28,8 @@ pub returns-in_ok-read_input-in-Tally-clause-prepared : goal.returns-in_ok-read_
 returns-in_ok-read_input-in-Tally-clause-prepared g c =
     telling-prepared (Tally c.in-Tally.workers c.in-Tally.grain) (Some c.args.command) (reading (g.S.Source.left c.args.source.now) (g.S.Source.left c.read_input-in-Tally.new.source) (g.S.Source.faults c.args.source.now) (g.S.Source.faults c.read_input-in-Tally.new.source))
     c.deref-in-Tally.result.now c.tell_tally.result (ap Some c.in-Tally.is) (rw c.deref-in-Tally.ensures.value c.in_ok-read_input-in-Tally.ensures.read) c.tell_tally.ensures
+
+pub returns-in_ok-bytes-in-Throttle-clause-prepared : goal.returns-in_ok-bytes-in-Throttle-clause-prepared
+returns-in_ok-bytes-in-Throttle-clause-prepared g c =
+    telling-prepared (Throttle c.in-Throttle.workers c.in-Throttle.burst c.in-Throttle.rate c.in-Throttle.period) (Some c.args.command) (reading (g.S.Source.left c.args.source.now) (g.S.Source.left c.read_input-in-Throttle.new.source) (g.S.Source.faults c.args.source.now) (g.S.Source.faults c.read_input-in-Throttle.new.source))
+    c.deref-in-Throttle.result.now c.tell_throttle.result (ap Some c.in-Throttle.is) (rw c.deref-in-Throttle.ensures.value c.in_ok-bytes-in-Throttle.ensures.read) c.tell_throttle.ensures

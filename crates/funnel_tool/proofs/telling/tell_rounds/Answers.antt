@@ -3,7 +3,7 @@ use Rattle.funnel_tool.proofs.Preparing.{rounds-telling}
 use Rattle.funnel_tool.proofs.telling.tell_rounds.Goals as goal
 
 pub returns-in-Some : goal.returns-in-Some
-returns-in-Some g c = rw (c.new.ensures.ending, c.new.ensures.halted) (c.in_ok-script.script, c.in_ok-script.ensures.0, sym c.in-Some.ensures.first, refl)
+returns-in-Some g c = rw (c.new.ensures.ending, c.new.ensures.halted) ((c.in_ok-script.script, c.in_ok-script.ensures.0, sym c.in-Some.ensures.first), refl)
 
 pub returns-in-Ok : goal.returns-in-Ok
 returns-in-Ok g c =

@@ -11,4 +11,4 @@ pub returns : goal.returns
 returns c =
     let other : c.in-Err.fault ≡ NoMemory → ⊥ = search rules in
     let halted : IsHalted c.in_ok-script.script c.in-Err.fault c.in-Err.halted.items = elim c.in-Err.ensures.refused [ inl memory ↦ absurd (other memory.0) | inr meant ↦ meant ] in
-    (c.in_ok-script.script, c.in_ok-script.ensures.0, halted)
+    ((c.in_ok-script.script, c.in_ok-script.ensures.0), (c.in_ok-script.script, c.in_ok-script.ensures.0, halted))

@@ -1,0 +1,19 @@
+#!/usr/bin/env bash
+# Prints how many lines of definitions a reader must believe to accept the claim of a public contract. The words of a pass (what it has seen, its own calls, what it has left, that it rests) and the history of a book are taken as words.
+set -eu
+cd "$(dirname "${BASH_SOURCE[0]}")/.."
+claim() { # what is called, and then what reading.py is asked
+    local name=$1
+    shift
+    printf '%-32s %s\n' "$name" "$(python3 bench/reading.py --words past,mine,left,Rests,calls_in,history "$@" | tail -1)"
+}
+claim "run, all commands" crates/funnel_tool/src/run.rt run ends
+claim "replay" crates/replay_run/src/replaying.rt replay told
+claim "add" crates/fn_funnel/src/waiting.rt add made
+claim "AddFuture::poll" crates/fn_future/src/single.rt AddFuture::poll made
+claim "finish_all" crates/fn_rounds/src/all_calls.rt finish_all made
+claim "rounds_text" crates/fn_rounds/src/script.rt rounds_text told
+claim "spread, the results" crates/fn_spread/src/spreading.rt spread results
+claim "throttle_text" crates/throttle_run/src/throttling.rt throttle_text told
+claim "BucketDesk::take" crates/quota_bucket/src/desks.rt BucketDesk::take takes
+claim "after, of the integer" crates/fn_model/src/lib.rt after
