@@ -16,7 +16,7 @@ struct Row {
 }
 
 // A row whose lines are answered.
-const fn told(line: &'static str, takes: &'static str, stdout: &'static str) -> Row {
+fn told(line: &'static str, takes: &'static str, stdout: &'static str) -> Row {
     Row {
         line,
         takes,
@@ -27,7 +27,7 @@ const fn told(line: &'static str, takes: &'static str, stdout: &'static str) -> 
 }
 
 // A row whose lines are refused.
-const fn refused(line: &'static str, takes: &'static str, stderr: &'static str) -> Row {
+fn refused(line: &'static str, takes: &'static str, stderr: &'static str) -> Row {
     Row {
         line,
         takes,
@@ -38,7 +38,7 @@ const fn refused(line: &'static str, takes: &'static str, stderr: &'static str) 
 }
 
 // A row whose words are no command.
-const fn no_command(line: &'static str) -> Row {
+fn no_command(line: &'static str) -> Row {
     Row {
         line,
         takes: "0 0 1\n",
