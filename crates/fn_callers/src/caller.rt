@@ -257,9 +257,3 @@ fn goes<T: Send>() {}
 pub fn callers_go() {
     goes::<Caller>();
 }
-
-
-
-
-
-

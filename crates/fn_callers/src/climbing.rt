@@ -19,12 +19,7 @@ use fn_table::{FunnelTable, Pass};
 use std::snapshot::Snapshot;
 
 /// Begins a call, or hands the pass back where no row is open.
-pub fn begin_call(
-    table: &FunnelTable,
-    pass: Pass,
-    kind: Kind,
-    amount: u64,
-) -> Result<Waiting, Pass>
+pub fn begin_call(table: &FunnelTable, pass: Pass, kind: Kind, amount: u64) -> Result<Waiting, Pass>
     requires together { IsOf table.now pass }
     requires rests { Rests pass }
     requires change { IsChange kind }
