@@ -1,5 +1,5 @@
-use Rattle.std.proofs.Common.{ap, ◌∙◌, map}
-use Rattle.fn_table.specs.Seen.{PassView}
+use Rattle.std.proofs.Common.{List, All, ap, ◌∙◌, map, subst}
+use Rattle.fn_table.specs.Seen.{PassView, IsWhole}
 use Rattle.fn_callers.specs.Callers.{at_rest}
 use Rattle.fn_callers.proofs.opening.open.Goals as goal
 
@@ -12,4 +12,5 @@ returns-in-Ok-share-clause-callers c =
       opened = t;
       start = c.in-Ok.ensures.table;
       fresh = c.in-Ok-share.ensures ∙ ap (map (at_rest t)) c.in-Ok.ensures.passes.fresh;
+      whole = subst (λ (l : List PassView). All IsWhole l) c.in-Ok.ensures.passes.fresh c.in-Ok.ensures.passes.idle;
     }
