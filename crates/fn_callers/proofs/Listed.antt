@@ -1,5 +1,5 @@
 -- A list that grows by one caller for each pass.
-use Rattle.std.proofs.Common.{◌≡◌, suc, List, [], ◌∷◌, ◌++◌, map, All, refl, sym, ◌∙◌, ap, subst, arith, append_assoc}
+use Rattle.std.proofs.Common.{◌≡◌, suc, List, [], ◌∷◌, ◌++◌, map, All, sym, ◌∙◌, ap, subst, arith, append_assoc}
 
 -- what holds of all of a list holds of its first and of the others
 pub all_head : {A : Type 0} (P : A → Type 0) (xs ys : List A) (x : A) → All P xs → xs ≡ x ∷ ys → P x

@@ -12,7 +12,6 @@ use Rattle.fn_direct.proofs.Joined.{none_made}
 use Rattle.fn_direct.specs.declared.Lost.{Lost}
 use Rattle.fn_direct.specs.Called.{call_of, HasCalled, HasMadeNone, Tried}
 use Rattle.fn_callers.specs.Words.{Rests, Made, MadeNone}
-use Rattle.fn_callers.specs.Ways.{HasLost}
 use Rattle.fn_callers.proofs.Funnelled.{within_cap}
 use Rattle.fn_callers.proofs.Claims.{made_by, made_none}
 

@@ -1,7 +1,6 @@
 -- A caller as contracts see it, by how it stands, and what its calls tell of it.
-use Rattle.std.proofs.Common.{◌≡◌, ◌≤◌, ◌+◌, ℕ, Some, None, IsSome, refl, sym, ◌∙◌, ap, subst}
+use Rattle.std.proofs.Common.{◌≡◌, ℕ, Some, sym, ◌∙◌, ap}
 use Rattle.fn_model.specs.declared.Kind.{Kind}
-use Rattle.fn_core.specs.declared.answer.Why.{Why}
 use Rattle.fn_core.specs.declared.answer.CoreStep.{CoreStep}
 use Rattle.fn_core.proofs.Orders.{histories_go_on}
 use Rattle.fn_table.specs.Seen.{TableView, PassView}
@@ -9,10 +8,10 @@ use Rattle.fn_climb.specs.Begin.{BeginAnswers}
 use Rattle.fn_climb.specs.Turns.{Polled}
 use Rattle.fn_climb.specs.declared.beginning.Begun.TheVariants as climb
 use Rattle.fn_callers.specs.declared.caller.Standing.{Standing}
-use Rattle.fn_callers.specs.declared.caller.Standing.TheVariants.{Idle, Waits}
+use Rattle.fn_callers.specs.declared.caller.Standing.TheVariants.{Waits}
 use Rattle.fn_callers.specs.declared.caller.Waiting.{Waiting}
 use Rattle.fn_callers.specs.Standing.{pass_of, call_of}
-use Rattle.fn_callers.specs.Callers.{Begun, CallerView, HasCall, at_rest}
+use Rattle.fn_callers.specs.Callers.{CallerView, at_rest}
 use Rattle.fn_callers.specs.Told.{HasBegun, StillWaits}
 
 abbrev pub view_of : TableView → PassView → Standing → CallerView

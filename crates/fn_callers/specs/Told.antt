@@ -3,11 +3,11 @@
 --     LoadTold, ChangeTold old .. result new      of a load, and of an addition or a subtraction past the aggregators
 --     BeginTold, PollTold old .. result new      of a beginning and of a poll
 --     LeftTold, CloseTold caller result      of what is left, and of an end
-use Rattle.std.specs.Prelude.{◌≡◌, ◌⊎◌, ◌+◌, ◌<◌, ◌≤◌, ℕ, Option, Some, None, Result, Ok, Err}
+use Rattle.std.specs.Prelude.{◌≡◌, ◌≢◌, ◌⊎◌, ◌+◌, ◌<◌, ◌≤◌, ℕ, Some, Result, Ok, Err}
 use mathlib.Core.List.{IsPrefix}
 use Rattle.fn_model.specs.declared.Kind.{Kind}
-use Rattle.fn_model.specs.declared.Kind.TheVariants.{Add, Sub}
-use Rattle.fn_table.specs.Seen.{PassView}
+use Rattle.fn_model.specs.declared.Kind.TheVariants.{Add}
+use Rattle.fn_core.specs.Machine.{no_cap}
 use Rattle.fn_callers.specs.declared.caller.Reason.{Reason}
 use Rattle.fn_callers.specs.declared.caller.Reason.TheVariants as why
 use Rattle.fn_callers.specs.Words.{past, left, Made, MadeNone}
@@ -27,13 +27,13 @@ LoadTold old (Ok value) new = IsFree old × IsFree new
 LoadTold old (Err why.Underway) new = HasCall old × (new ≡ old)
 LoadTold old (Err _) new = ⊥
 
--- an addition or a subtraction past the aggregators: where it lost, no call was made; where it wasn't tried, the caller is as before
-abbrev pub ChangeTold : CallerView → ℕ → Result ℕ Reason → CallerView → Type 0
-ChangeTold old amount (Ok before) new = IsFree old × MayAsk old amount × IsFree new
-ChangeTold old amount (Err why.Lost) new = IsFree old × MayAsk old amount × IsFree new × MadeNone old.pass new.pass
-ChangeTold old amount (Err why.Underway) new = HasCall old × (new ≡ old)
-ChangeTold old amount (Err why.Spent) new = IsFree old × IsSpent old amount × (new ≡ old)
-ChangeTold old amount (Err _) new = ⊥
+-- an addition or a subtraction past the aggregators: where it lost, no call was made, and an addition has a cap; where it wasn't tried, the caller is as before
+abbrev pub ChangeTold : CallerView → Kind → ℕ → Result ℕ Reason → CallerView → Type 0
+ChangeTold old kind amount (Ok before) new = IsFree old × MayAsk old amount × IsFree new
+ChangeTold old kind amount (Err why.Lost) new = IsFree old × MayAsk old amount × IsFree new × MadeNone old.pass new.pass × (kind ≡ Add → old.table.start.cap ≢ no_cap)
+ChangeTold old kind amount (Err why.Underway) new = HasCall old × (new ≡ old)
+ChangeTold old kind amount (Err why.Spent) new = IsFree old × IsSpent old amount × (new ≡ old)
+ChangeTold old kind amount (Err _) new = ⊥
 
 -- The same pass has begun exactly this call, whose amount it has spent; the call has no reply yet
 pub record HasBegun (old : CallerView) (kind : Kind) (amount : ℕ) (new : CallerView) : Type 0 where

@@ -129,7 +129,7 @@ impl Caller {
     /// Adds past the aggregators, up to the cap, and gives the integer before.
     pub fn add(&mut self, amount: u64) -> Result<u64, Reason>
         ensures made { IfOk result (λ before. Made self.old.pass Add amount before self.new.pass) }
-        ensures told { ChangeTold self.old amount result self.new }
+        ensures told { ChangeTold self.old Add amount result self.new }
         ensures table { self.new.table ≡ self.old.table }
         ensures way { ChangeWay self.old Add amount result self.new }
     {
@@ -139,7 +139,7 @@ impl Caller {
     /// Subtracts past the aggregators, down to zero, and gives the integer before.
     pub fn subtract(&mut self, amount: u64) -> Result<u64, Reason>
         ensures made { IfOk result (λ before. Made self.old.pass Sub amount before self.new.pass) }
-        ensures told { ChangeTold self.old amount result self.new }
+        ensures told { ChangeTold self.old Sub amount result self.new }
         ensures table { self.new.table ≡ self.old.table }
         ensures way { ChangeWay self.old Sub amount result self.new }
     {
@@ -150,7 +150,7 @@ impl Caller {
     fn change(&mut self, kind: Kind, amount: u64) -> Result<u64, Reason>
         requires change { IsChange kind }
         ensures made { IfOk result (λ before. Made self.old.pass kind amount before self.new.pass) }
-        ensures told { ChangeTold self.old amount result self.new }
+        ensures told { ChangeTold self.old kind amount result self.new }
         ensures table { self.new.table ≡ self.old.table }
         ensures way { ChangeWay self.old kind amount result self.new }
     {

@@ -1,7 +1,7 @@
 //! Calls of a pass that go to the main word by themselves, in the words of the history.
-ghost use Rattle.std.specs.Prelude.{◌≢◌, ◌≤◌, IfErr, IfOk};
+ghost use Rattle.std.specs.Prelude.{◌≡◌, ◌≢◌, ◌≤◌, IfErr, IfOk};
 ghost use Rattle.fn_model.specs.declared.Kind.TheVariants.{Add, Read};
-ghost use Rattle.fn_core.specs.Machine.{IsChange};
+ghost use Rattle.fn_core.specs.Machine.{IsChange, no_cap};
 ghost use Rattle.fn_table.specs.Seen.{IsOf};
 ghost use Rattle.fn_climb.specs.Steps.{IsLater};
 ghost use Rattle.fn_direct.specs.Called.{HasCalled, HasMadeNone, Tried};
@@ -37,6 +37,7 @@ pub fn change(table: &FunnelTable, pass: &mut Pass, kind: Kind, amount: u64) -> 
     ensures none { IfErr result (λ _. MadeNone pass.old pass.new) }
     ensures called { IfOk result (λ before. HasCalled pass.old kind amount before pass.new) }
     ensures lost { IfErr result (λ _. HasLost pass.old kind amount pass.new) }
+    ensures capped { IfErr result (λ _. kind ≡ Add → table.now.start.cap ≢ no_cap) }
 {
     let _legal = pass.number();
     try_once(table, pass, kind, amount)
@@ -51,6 +52,7 @@ fn try_once(table: &FunnelTable, pass: &mut Pass, kind: Kind, amount: u64) -> Re
     ensures later { IsLater pass.old pass.new }
     ensures called { IfOk result (λ before. HasCalled pass.old kind amount before pass.new) }
     ensures lost { IfErr result (λ lost. Tried pass.old kind amount lost.loaded lost.found pass.new × (lost.found ≢ lost.loaded) × HasMadeNone pass.old pass.new) }
+    ensures capped { IfErr result (λ _. kind ≡ Add → table.now.start.cap ≢ no_cap) }
 {
     match kind {
         Kind::Add => add_once(table, pass, amount),
@@ -67,6 +69,7 @@ fn add_once(table: &FunnelTable, pass: &mut Pass, amount: u64) -> Result<u64, Lo
     ensures later { IsLater pass.old pass.new }
     ensures called { IfOk result (λ before. HasCalled pass.old Add amount before pass.new) }
     ensures lost { IfErr result (λ lost. Tried pass.old Add amount lost.loaded lost.found pass.new × (lost.found ≢ lost.loaded) × HasMadeNone pass.old pass.new) }
+    ensures capped { IfErr result (λ _. table.now.start.cap ≢ no_cap) }
 {
     if table.cap() == NO_CAP {
         return Ok(add_direct(table, pass, amount));
