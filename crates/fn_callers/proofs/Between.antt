@@ -5,11 +5,11 @@ use Rattle.fn_core.specs.declared.answer.Blocked.{Blocked}
 use Rattle.fn_core.specs.declared.answer.CoreStep.{CoreStep}
 use Rattle.fn_core.specs.declared.answer.CoreStep.TheVariants.{Ready}
 use Rattle.fn_core.specs.Calls.{IsLegal, IsIdle}
-use Rattle.fn_table.specs.Seen.{TableView, PassView, IsOf}
+use Rattle.fn_table.specs.Seen.{PassView}
 use Rattle.fn_climb.specs.Begin.{BeginAnswers}
 use Rattle.fn_climb.specs.Turns.{Polled}
 use Rattle.fn_climb.specs.declared.beginning.Begun.TheVariants.{Waiting, NoRow}
-use Rattle.fn_climb.proofs.Later.{later_on, of_later}
+use Rattle.fn_climb.proofs.Later.{later_on}
 use Rattle.fn_callers.specs.Words.{Rests, Made, MadeNone}
 use Rattle.fn_callers.specs.Standing.{HasCome}
 use Rattle.fn_callers.proofs.Funnelled.{funnelled}
@@ -28,9 +28,6 @@ pub refused_none : (p : PassView) (kind : Kind) (amount : ℕ) (r : PassView) (a
 refused_none p kind amount r at inside idle begins = made_none p r begins.1.later (none_since p r inside idle begins.1.later begins.3)
 
 module _ (p : PassView) (kind : Kind) (amount : ℕ) (now : PassView) (c : HasCome p kind amount now) where
-  pub come_of : (t : TableView) → IsOf t p → IsOf t now
-  come_of t together = of_later t p now c.later together
-
   -- one more poll
   pub come_more : (told : CoreStep) (q : PassView) → Polled now told q → HasCome p kind amount q
   come_more told q polled = record {

@@ -1,7 +1,6 @@
 -- A call through the funnel, from before its beginning up to its reply.
-use Rattle.std.proofs.Common.{◌≡◌, ℕ, suc, ◌+◌, ◌≤◌, length, sum, [], ◌∷◌, ◌++◌, take, Some, refl, sym, ◌∙◌, ap, subst, arith}
+use Rattle.std.proofs.Common.{◌≡◌, ℕ, suc, ◌+◌, ◌≤◌, length, sum, [], ◌∷◌, ◌++◌, take, Some, sym, ◌∙◌, ap, subst, arith}
 use Rattle.std.proofs.lemmas.Bool.{false≢true}
-use Rattle.running.proofs.Logs.{prefix_refl}
 use Rattle.fn_model.specs.declared.Call.{Call}
 use Rattle.fn_model.specs.declared.Kind.{Kind}
 use Rattle.fn_model.specs.Calls.{own, place}
@@ -21,9 +20,6 @@ use Rattle.fn_climb.specs.Steps.{IsLater, HasSameCall}
 use Rattle.fn_climb.specs.Turns.{Polled}
 use Rattle.fn_climb.proofs.Later.{later_on}
 use Rattle.fn_direct.specs.Called.{call_of, HasCalled}
-
-pub later_none : (p : PassView) → IsLegal p.seen → IsLater p p
-later_none p legal = record { table = refl; number = refl; start = refl; begins = prefix_refl p.seen.log; legal = legal }
 
 -- a pass that makes no call has none underway
 pub none_underway : (core : CoreLog) (pass : ℕ) → IsLegal core → IsIdle core pass → HasCall core pass → ⊥

@@ -4,4 +4,4 @@ mod Once
 mod Between
 mod Stands
 mod Listed
-mod Sent
+pub mod Sent

@@ -1,15 +1,9 @@
 -- A list that grows by one caller for each pass.
 use Rattle.std.proofs.Common.{◌≡◌, suc, List, [], ◌∷◌, ◌++◌, map, All, sym, ◌∙◌, ap, subst, arith, append_assoc}
 
--- what holds of all of a list holds of its first and of the others
-pub all_head : {A : Type 0} (P : A → Type 0) (xs ys : List A) (x : A) → All P xs → xs ≡ x ∷ ys → P x
-all_head P xs ys x h is = let k : All P (x ∷ ys) = subst (All P) is h in k 0 x (omega arith)
-
+-- what holds of all of a list holds of all but its first
 pub all_tail : {A : Type 0} (P : A → Type 0) (xs ys : List A) (x : A) → All P xs → xs ≡ x ∷ ys → All P ys
 all_tail P xs ys x h is = let k : All P (x ∷ ys) = subst (All P) is h in λ i d l. k (suc i) d (omega arith)
-
-pub all_mono : {A : Type 0} (P Q : A → Type 0) (xs : List A) → ((x : A) → P x → Q x) → All P xs → All Q xs
-all_mono P Q xs f h = λ i d l. f _ (h i d l)
 
 module _ {A B : Type 0} (f : A → B) (whole : List A) where
   -- one more of them

@@ -2,22 +2,15 @@
 use Rattle.std.proofs.Common.{◌≡◌, ◌<◌, ◌≤◌, ◌≢◌, ℕ, Result, Ok, Err, IfOk, IfErr, sym, subst}
 use Rattle.fn_model.specs.declared.Kind.{Kind}
 use Rattle.fn_core.specs.declared.Start.{Start}
-use Rattle.fn_core.specs.declared.Move.TheVariants.{Load, Exchange}
-use Rattle.fn_core.specs.declared.Purpose.TheVariants as purpose
 use Rattle.fn_core.specs.Calls.{IsLegal, IsIdle}
 use Rattle.fn_table.specs.Seen.{PassView, own_of}
 use Rattle.fn_climb.specs.Steps.{IsLater}
-use Rattle.fn_climb.proofs.Later.{later_by, later_on}
 use Rattle.fn_direct.proofs.Joined.{none_made}
 use Rattle.fn_direct.specs.declared.Lost.{Lost}
 use Rattle.fn_direct.specs.Called.{call_of, HasCalled, HasMadeNone, Tried}
 use Rattle.fn_callers.specs.Words.{Rests, Made, MadeNone}
 use Rattle.fn_callers.proofs.Funnelled.{within_cap}
 use Rattle.fn_callers.proofs.Claims.{made_by, made_none}
-
--- two steps
-pub later_tried : (p : PassView) (kind : Kind) (amount loaded found : ℕ) (q : PassView) → Tried p kind amount loaded found q → IsLater p q
-later_tried p kind amount loaded found q t = later_on p t.between q (later_by p (Load purpose.Try) loaded t.between t.load) (later_by t.between (Exchange kind amount) found q t.exchange)
 
 -- a pass that has the same caller as before has made no call
 pub none_since : (p q : PassView) → p.number < p.seen.start.shape.passes → IsIdle p.seen p.number → IsLater p q → (own_of q).caller ≡ (own_of p).caller → HasMadeNone p q
