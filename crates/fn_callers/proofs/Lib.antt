@@ -1,0 +1,7 @@
+mod Funnelled
+mod Claims
+mod Once
+mod Between
+mod Stands
+mod Listed
+pub mod Sent

@@ -1,0 +1,7 @@
+pub mod Words
+pub mod Shapes
+pub mod Callers
+pub mod Standing
+pub mod Opening
+pub mod Told
+pub mod Ways

@@ -1,0 +1,14 @@
+//! Callers of a funnel: each has a pass and a share of the table, so that a call asks for nothing beforehand. Each call answers a reply, or the reason why there is none.
+#![tactic(auto)]
+
+mod caller;
+mod climbing;
+mod direct;
+mod opening;
+mod shapes;
+
+pub use caller::{Caller, Reason};
+pub use opening::{OpenFault, open};
+
+#[cfg(test)]
+mod tests;
