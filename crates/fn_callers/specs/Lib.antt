@@ -1,5 +1,4 @@
 pub mod Words
-pub mod Shapes
 pub mod Callers
 pub mod Standing
 pub mod Opening

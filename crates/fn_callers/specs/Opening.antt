@@ -10,7 +10,7 @@ use Rattle.fn_core.specs.Calls as core
 use Rattle.fn_table.specs.Seen.{TableView, IsWhole, fresh_passes}
 use Rattle.fn_callers.specs.declared.opening.OpenFault.{OpenFault}
 use Rattle.fn_callers.specs.declared.opening.OpenFault.TheVariants.{Count, CapTooLarge, Table}
-use Rattle.fn_callers.specs.Shapes.{IsShapeFor}
+use Rattle.fn_layout.specs.Workers.{IsShapeFor}
 use Rattle.fn_callers.specs.Callers.{CallerView, at_rest}
 
 -- The callers have the fresh passes of one table, in order of number, one for each allowance; each rests with its whole allowance. The table has opened with these numbers

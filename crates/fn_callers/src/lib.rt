@@ -5,7 +5,6 @@ mod caller;
 mod climbing;
 mod direct;
 mod opening;
-mod shapes;
 
 pub use caller::{Caller, Reason};
 pub use opening::{OpenFault, open};

@@ -7,7 +7,7 @@ ghost use Rattle.fn_callers.specs.Callers.{at_rest};
 ghost use Rattle.fn_callers.specs.Opening.{AreCallers, open_fault, TellsFault};
 
 use crate::caller::{Caller, SharedTable};
-use crate::shapes::shape_for;
+use fn_layout::shape_for;
 use fn_model::NO_CAP;
 use fn_table::{FunnelTable, Pass};
 use std::alloc::{AllocError, Global};

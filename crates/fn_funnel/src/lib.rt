@@ -2,16 +2,14 @@
 #![tactic(auto)]
 
 mod opening;
-mod shapes;
 mod waiting;
 
 pub use fn_climb::{Begun, Pending, Step, Turn, begin};
 pub use fn_core::{Blocked, OpenFault, Why};
 pub use fn_direct::{Lost, add_capped, add_direct, meet, note, read, sub_direct};
-pub use fn_layout::{Kind, Shape};
+pub use fn_layout::{Kind, Shape, shape_for};
 pub use fn_table::{Book, FunnelTable, Note, Pass};
 pub use opening::Funnel;
-pub use shapes::shape_for;
 pub use waiting::{Added, Way, add, go_straight, sub};
 
 #[cfg(test)]

@@ -366,19 +366,6 @@ fn totals_and_caps_are_checked(rt: HostRuntime) -> Result<(), Fail> {
     Ok(())
 }
 
-#[test]
-fn shapes_are_for_workers(rt: HostRuntime) -> Result<(), Fail> {
-    for (workers, leaves, levels) in [(1, 1, 1), (4, 1, 1), (5, 2, 2), (64, 16, 2)] {
-        assert!(rt; workers >= 1 && workers <= 64);
-        let shape = shape_for(workers);
-        assert_eq!(rt; shape.passes(), workers);
-        assert_eq!(rt; shape.leaves(), leaves);
-        assert_eq!(rt; shape.levels(), levels);
-        assert_eq!(rt; shape.rows(), 4);
-    }
-    Ok(())
-}
-
 fn is_shared<T: Sync>(_: &T) {}
 
 fn is_sent<T: Send>(_: &T) {}

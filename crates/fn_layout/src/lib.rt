@@ -2,12 +2,14 @@
 #![tactic(auto)]
 
 mod shape;
+mod workers;
 
 ghost use Rattle.fn_layout.specs.Laws.{NamesAreRead, NumbersAreNamed, NamesAreDistinct, MembersAreNumbered, NumbersAreMembers, MembersRise};
 
 pub use fn_model::Kind;
 pub use fn_rows::Field;
 pub use shape::{Shape, ShapeFault};
+pub use workers::shape_for;
 
 /// Each word has one name and one number, and the numbers are those below the number of words.
 pub fn word_laws()
@@ -90,6 +92,18 @@ mod tests {
             assert_eq!(rt; shape.member(6, 1), 1);
             assert_eq!(rt; shape.pass_of(1, 1, 1), 6);
             assert_eq!(rt; shape.pass_of(2, 0, 2), 5);
+        }
+    }
+
+    #[test]
+    fn shapes_are_for_workers(rt: HostRuntime) {
+        for (workers, leaves, levels) in [(1, 1, 1), (4, 1, 1), (5, 2, 2), (64, 16, 2)] {
+            assert!(rt; workers >= 1 && workers <= 64);
+            let shape = shape_for(workers);
+            assert_eq!(rt; shape.passes(), workers);
+            assert_eq!(rt; shape.leaves(), leaves);
+            assert_eq!(rt; shape.levels(), levels);
+            assert_eq!(rt; shape.rows(), 4);
         }
     }
 }

@@ -16,7 +16,7 @@ use Rattle.fn_core.specs.Calls.{calls_in, IsIdle, newly_opened}
 use Rattle.fn_layout.specs.declared.shape.Shape.{Shape}
 use Rattle.fn_table.specs.Seen.{TableView, PassView, IsOf, IsWhole, fresh, fresh_passes, AreOpened}
 use Rattle.fn_table.proofs.Glances.{glances_run}
-use Rattle.fn_funnel.specs.Shapes.{IsShapeFor}
+use Rattle.fn_layout.specs.Workers.{IsShapeFor}
 use Rattle.fn_model.specs.declared.TheConstants.{NO_CAP}
 use Rattle.quota_pool.specs.declared.faults.PoolFault.TheVariants.{TooMuch, AboveCap}
 use Rattle.quota_pool.specs.Faults.{too_much_from, above_cap_from, first_of_two, pool_fault}

@@ -6,7 +6,7 @@ use Rattle.std.specs.Prelude.{◌≡◌, ◌<◌, ℕ, List, [], ◌∷◌, ◌+
 use Rattle.running.specs.Running.{upto}
 use Rattle.fn_core.specs.Calls.{calls_in}
 use Rattle.fn_table.specs.Seen.{TableView, PassView, IsWhole, fresh}
-use Rattle.fn_funnel.specs.Shapes.{IsShapeFor}
+use Rattle.fn_layout.specs.Workers.{IsShapeFor}
 use Rattle.quota_pool.specs.Views.{PoolView, DeskView, Belongs}
 
 -- the desk of a worker at these tables: at each a pass that has made no step of its own

@@ -21,7 +21,7 @@ use Rattle.fn_core.proofs.Orders.{histories_go_on}
 use Rattle.std.proofs.lemmas.List.{length-append, get_or_append_left}
 use Rattle.fn_core.specs.declared.Move.TheVariants.{Glance}
 use Rattle.fn_table.specs.Seen.{TableView, PassView, fresh, event}
-use Rattle.fn_funnel.specs.Shapes.{IsShapeFor}
+use Rattle.fn_layout.specs.Workers.{IsShapeFor}
 use Rattle.fn_funnel.specs.declared.waiting.Way.{Way}
 use Rattle.fn_funnel.proofs.Calls.{entered_stays}
 use Rattle.fn_core.proofs.Entered.{entries_stay}

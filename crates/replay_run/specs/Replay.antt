@@ -11,7 +11,7 @@ use Rattle.fn_model.specs.Integer.{value}
 use Rattle.fn_core.specs.Calls.{CoreLog, calls_in, IsLegal}
 use Rattle.fn_core.specs.Laws.{HasReply}
 use Rattle.fn_table.specs.Seen.{PassView}
-use Rattle.fn_funnel.specs.Shapes.{IsShapeFor}
+use Rattle.fn_layout.specs.Workers.{IsShapeFor}
 use Rattle.quota_pool.specs.declared.moved.Moved.{Moved}
 use Rattle.quota_pool.specs.Calls.{Called, EntersBy}
 use Rattle.trace_text.specs.declared.traces.Row.{Row}

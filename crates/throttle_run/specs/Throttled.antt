@@ -15,7 +15,7 @@ use Rattle.fn_model.specs.declared.Kind.TheVariants.{Add, Sub}
 use Rattle.fn_model.specs.Calls.{own}
 use Rattle.fn_model.specs.Integer.{value, Meets}
 use Rattle.fn_core.specs.Calls.{IsLegal}
-use Rattle.fn_funnel.specs.Shapes.{IsShapeFor}
+use Rattle.fn_layout.specs.Workers.{IsShapeFor}
 use Rattle.tick_table.specs.declared.entry.Entry.{Entry}
 use Rattle.tick_table.specs.Claims.{reach}
 use Rattle.tick_table.specs.Seen.{entries_of, entry}

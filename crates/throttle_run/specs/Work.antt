@@ -9,7 +9,7 @@
 use Rattle.std.specs.Prelude.{◌≡◌, ℕ, ◌<◌, ◌≤◌, List, [], ◌∷◌, length, map, sum_by, All, slice_index_or}
 use Rattle.fn_model.specs.declared.TheConstants.{NO_CAP}
 use Rattle.fn_funnel.specs.Words.{left}
-use Rattle.fn_funnel.specs.Shapes.{IsShapeFor}
+use Rattle.fn_layout.specs.Workers.{IsShapeFor}
 use Rattle.quota_bucket.specs.declared.desks.Taken.{Taken}
 use Rattle.quota_bucket.specs.Seen.{BucketView, DeskView, Belongs, burst}
 use Rattle.quota_bucket.specs.Opened.{IsNew}

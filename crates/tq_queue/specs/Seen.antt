@@ -13,7 +13,7 @@ use Rattle.fn_core.specs.Machine.{no_cap}
 use Rattle.fn_core.specs.Calls.{CoreLog, calls_in, left_of}
 use Rattle.fn_table.specs.Seen.{TableView, PassView}
 use Rattle.fn_table.specs.Seen as funnel
-use Rattle.fn_funnel.specs.Shapes.{IsShapeFor}
+use Rattle.fn_layout.specs.Workers.{IsShapeFor}
 use Rattle.tq_cells.specs.Seen.{CellsView, SeatView, CellLog}
 use Rattle.tq_cells.specs.Seen as cells
 

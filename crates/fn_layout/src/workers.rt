@@ -1,8 +1,8 @@
 //! The shape that a number of workers gets.
 ghost use Rattle.std.specs.Prelude.{◌≤◌};
-ghost use Rattle.fn_funnel.specs.Shapes.{IsShapeFor};
+ghost use Rattle.fn_layout.specs.Workers.{IsShapeFor};
 
-use fn_layout::Shape;
+use crate::shape::Shape;
 
 /// A pass for each worker, one leaf for each four workers, four rows, and two levels where there are at least two leaves.
 pub fn shape_for(workers: u32) -> Shape
