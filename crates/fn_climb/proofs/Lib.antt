@@ -4,6 +4,7 @@ pub mod Underway
 pub mod Onward
 pub mod Moves
 pub mod Goes
+pub mod Batch
 pub mod Tops
 pub mod Sofar
 pub mod Along

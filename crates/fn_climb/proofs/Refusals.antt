@@ -143,7 +143,7 @@ module _ (p : PassView) (kind : Kind) (words : ℕ → ℕ → ℕ → ℕ) (lev
       subst (IsRefused p kind takings) (sym same) (record {
         level = (inside.0, omega (arith, inside.1));
         each = λ n lt. let q = row_blocked n lt in (q.0, finds.words n q.0 - 1, held_by n lt q.0 q.1);
-        row = within;
+        row = (let e : suc last ≡ shape.rows = omega (arith, low) in e);
         held = held_by last within other is;
         last = ends_with last within other is (omega (arith, low));
       })

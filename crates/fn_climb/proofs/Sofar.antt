@@ -36,7 +36,7 @@ use Rattle.fn_climb.proofs.Onward.{joined_from}
 
 -- no aggregator has more rows than all passes have
 pub all_rows : (start : Start) (pass : ℕ) → HoldsRows start pass (start.shape.passes * start.shape.rows)
-all_rows start pass level = mul-le (members start.shape level (aggregator start.shape pass level)) start.shape.rows start.shape.passes start.shape.rows (members_few start.shape level (aggregator start.shape pass level)) (omega arith)
+all_rows start pass level inside = mul-le (members start.shape level (aggregator start.shape pass level)) start.shape.rows start.shape.passes start.shape.rows (members_few start.shape level (aggregator start.shape pass level)) (omega arith)
 
 -- a member that stands somewhere has a step left
 rank_some : (n visited : ℕ) (g : Stage) → is_out g ≡ false → 1 ≤ rank n visited g
@@ -243,3 +243,12 @@ falls r s w =
     let same : left_in s ≡ steps_left s.seen.start (state_in s.seen) r.number (r.seen.start.shape.passes * r.seen.start.shape.rows) =
     (λ i. steps_left s.seen.start (state_in s.seen) (w.later.number i) ((w.later.start i).shape.passes * (w.later.start i).shape.rows)) in
     omega (arith, fewer, same)
+
+-- several steps more
+pub sofar_along : (p r s : PassView) (steps : List Move) → SoFar p r → GoesOn r steps s → SoFar p s
+sofar_along p r s [] so is = subst (SoFar p) (sym is) so
+sofar_along p r s (step ∷ steps) so goes = sofar_along p goes.0 s steps (sofar_on p r goes.0 so goes.1) goes.3
+
+pub falls_along : (r s : PassView) (steps : List Move) → GoesOn r steps s → left_in s ≤ left_in r
+falls_along r s [] is = let e : left_in s ≡ left_in r = ap left_in is in omega (arith, e)
+falls_along r s (step ∷ steps) goes = let more = falls_along goes.0 s steps goes.3 in let one = falls r goes.0 goes.1 in omega (arith, more, one)

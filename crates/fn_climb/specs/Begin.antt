@@ -157,7 +157,7 @@ pub record IsHeld (p : PassView) (kind : Kind) (takings : List Taken) (level n o
 pub record IsRefused (p : PassView) (kind : Kind) (takings : List Taken) (at : Blocked) : Type 0 where
   pub level : IsLevel p.seen.start.shape at.level
   pub each : (n : ℕ) → n < p.seen.start.shape.rows → (other announced : ℕ) × IsHeld p kind takings at.level n other announced
-  pub row : at.row < p.seen.start.shape.rows
+  pub row : suc at.row ≡ p.seen.start.shape.rows
   pub held : IsHeld p kind takings at.level at.row at.pass at.announced
   pub last : (earlier : List Taken) × (takings ≡ earlier ++ record { step = Scan kind at.level at.pass; number = suc at.announced } ∷ [])
 

@@ -1,11 +1,13 @@
 //! How a call begins: it finds a row at each level, and arrives at its leaf.
-ghost use Rattle.std.specs.Prelude.{◌≡◌, ◌<◌};
+ghost use Rattle.std.specs.Prelude.{◌≡◌, ◌<◌, IfOk, IfErr};
 ghost use Rattle.fn_layout.specs.Tree.{IsLevel};
 ghost use Rattle.fn_layout.specs.Words.{IsSlot};
 ghost use Rattle.fn_core.specs.Machine.{IsChange, MaySpend};
 ghost use Rattle.fn_core.specs.Begin.{is_other};
 ghost use Rattle.fn_core.specs.Calls.{state_in, IsIdle};
 ghost use Rattle.fn_table.specs.Seen.{IsOf, own_of};
+ghost use Rattle.fn_climb.specs.declared.beginning.Begun.TheVariants as begun;
+ghost use Rattle.fn_climb.specs.Course.{Holds};
 ghost use Rattle.fn_climb.specs.Begin.{AreOpen, Arrived, BeginAnswers, RowTried, LevelTried, RowsTried};
 
 use crate::course::Course;
@@ -33,9 +35,30 @@ pub fn begin(table: &FunnelTable, mut pass: Pass, kind: Kind, amount: u64) -> Be
     requires amount { MaySpend (state_in pass.seen) pass.number amount }
     ensures { BeginAnswers pass kind amount result }
 {
-    match find_rows(table, &mut pass, kind) {
-        Ok(rows) => Begun::Waiting(arrive_at_leaf(table, pass, kind, amount, rows)),
+    match begin_on(table, &mut pass, kind, amount) {
+        Ok(course) => Begun::Waiting(Pending { pass, course }),
         Err(blocked) => Begun::NoRow(pass, blocked),
+    }
+}
+
+/// Begins a call of a pass in place: gives how far the call has come, or the load by which it is refused.
+#[inline(always)]
+pub fn begin_on(
+    table: &FunnelTable,
+    pass: &mut Pass,
+    kind: Kind,
+    amount: u64,
+) -> Result<Course, Blocked>
+    requires together { IsOf table.now pass.old }
+    requires idle { IsIdle pass.old.seen pass.old.number }
+    requires change { IsChange kind }
+    requires amount { MaySpend (state_in pass.old.seen) pass.old.number amount }
+    ensures begun { IfOk result (λ course. BeginAnswers pass.old kind amount (begun.Waiting pass.new) × Holds pass.new course) }
+    ensures refused { IfErr result (λ at. BeginAnswers pass.old kind amount (begun.NoRow pass.new at)) }
+{
+    match find_rows(table, pass, kind) {
+        Ok(rows) => Ok(arrive_at_leaf(table, pass, kind, amount, rows)),
+        Err(blocked) => Err(blocked),
     }
 }
 
@@ -43,30 +66,30 @@ pub fn begin(table: &FunnelTable, mut pass: Pass, kind: Kind, amount: u64) -> Be
 #[inline(always)]
 fn arrive_at_leaf(
     table: &FunnelTable,
-    mut pass: Pass,
+    pass: &mut Pass,
     kind: Kind,
     amount: u64,
     rows: [u32; 3],
-) -> Pending
-    requires together { IsOf table.now pass }
-    requires idle { IsIdle pass.seen pass.number }
+) -> Course
+    requires together { IsOf table.now pass.old }
+    requires idle { IsIdle pass.old.seen pass.old.number }
     requires change { IsChange kind }
-    requires amount { MaySpend (state_in pass.seen) pass.number amount }
-    requires open_rows { AreOpen pass kind rows }
-    ensures { Arrived pass kind amount result }
+    requires amount { MaySpend (state_in pass.old.seen) pass.old.number amount }
+    requires open_rows { AreOpen pass.old kind rows }
+    ensures arrived { Arrived pass.old kind amount pass.new }
+    ensures holds { Holds pass.new result }
 {
     let _number = pass.number();
-    let seen = see(table, &mut pass, kind, 1);
-    announce(table, &mut pass, kind, 1, seen);
-    let at = arrive(table, &mut pass, kind, 1, amount);
-    let course = Course {
+    let seen = see(table, pass, kind, 1);
+    announce(table, pass, kind, 1, seen);
+    let at = arrive(table, pass, kind, 1, amount);
+    Course {
         kind,
         level: 1,
         word: None,
         stages: [Stage::Waiting(at), Stage::Out, Stage::Out],
         rows,
-    };
-    Pending { pass, course }
+    }
 }
 
 // Tries the levels up to the first without an open row, and gives the first open row of each, or the load that refuses the call.

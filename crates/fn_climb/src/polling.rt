@@ -1,8 +1,12 @@
 //! The steps of a call up to an answer.
 ghost use Rattle.fn_table.specs.Seen.{IsOf};
-ghost use Rattle.fn_climb.specs.Turns.{PollAnswers};
+ghost use Rattle.fn_climb.specs.Course.{Holds};
+ghost use Rattle.fn_climb.specs.Steps.{HoldsStill};
+ghost use Rattle.fn_climb.specs.Turns.{Polled, PollAnswers};
 
+use crate::course::Course;
 use crate::pending::Pending;
+use crate::publishing::publish_based;
 use crate::stepping::advance;
 use fn_core::{CoreStep, Why};
 use fn_table::{FunnelTable, Pass};
@@ -26,12 +30,27 @@ impl Pending {
             mut pass,
             mut course,
         } = self;
-        loop {
-            match advance(table, &mut pass, &mut course) {
-                CoreStep::Going => {}
-                CoreStep::Ready(reply) => return Turn::Ready(pass, reply),
-                CoreStep::NotYet(why) => return Turn::NotYet(Pending { pass, course }, why),
-            }
+        match poll_on(table, &mut pass, &mut course) {
+            CoreStep::Ready(reply) => Turn::Ready(pass, reply),
+            CoreStep::NotYet(why) => Turn::NotYet(Pending { pass, course }, why),
+            CoreStep::Going => unreachable!(),
+        }
+    }
+}
+
+/// Takes steps of a call in place, up to the first that ends it or tells it to wait.
+#[inline(always)]
+pub fn poll_on(table: &FunnelTable, pass: &mut Pass, course: &mut Course) -> CoreStep
+    requires together { IsOf table.now pass.old }
+    requires holds { Holds pass.old course.old }
+    ensures polled { Polled pass.old result pass.new }
+    ensures holds { HoldsStill result pass.new course.new }
+{
+    loop {
+        match advance(table, pass, course) {
+            CoreStep::Going => publish_based(table, pass, course),
+            CoreStep::Ready(reply) => return CoreStep::Ready(reply),
+            CoreStep::NotYet(why) => return CoreStep::NotYet(why),
         }
     }
 }

@@ -14,6 +14,7 @@ use fn_rows::Stage;
 use fn_table::{FunnelTable, Pass, apply_batch, exchange, leave, load_try, look, see};
 
 /// Takes the next step of a call, exactly one, and tells how the call stands then.
+#[inline(always)]
 pub fn advance(table: &FunnelTable, pass: &mut Pass, course: &mut Course) -> CoreStep
     requires together { IsOf table.now pass.old }
     requires holds { Holds pass.old course.old }

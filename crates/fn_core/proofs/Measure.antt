@@ -87,8 +87,8 @@ module _ (start : Start) (ok : IsStart start) (s : State) (w : Whole start s) (p
     here : (step : ℕ → local_step.Step) → (local start s kind (suc below) p step).rows kind (suc below) index ≡ traced t (step m)
     here step = put_at_here s.rows kind (suc below) index (traced t (step m))
 
-    walk_fits : (next : State) → Whole start next → (new : Traced) → next.rows kind (suc below) index ≡ new → length (new.walk m) ≤ n
-    walk_fits next w' new same = omega (arith, walk_short start ok next w' kind (suc below) index m, holds (suc below), ap (λ (x : Traced). length (x.walk m)) same)
+    walk_fits : suc below ≤ start.shape.levels → (next : State) → Whole start next → (new : Traced) → next.rows kind (suc below) index ≡ new → length (new.walk m) ≤ n
+    walk_fits high next w' new same = omega (arith, walk_short start ok next w' kind (suc below) index m, holds (suc below) high, ap (λ (x : Traced). length (x.walk m)) same)
 
   nowhere : {A : Type 0} (kind : Kind) → (s.callers p).position ≡ Climbing kind 0 → A
   nowhere kind is = absurd (not_below start ok s w p range kind is)
@@ -157,7 +157,7 @@ module _ (start : Start) (ok : IsStart start) (s : State) (w : Whole start s) (p
   head_fewer kind zero may = nowhere kind may.0
   head_fewer kind (suc below) may =
       let next : State = local start s kind (suc below) p (λ i. local_step.Head i) in
-      let fits = walk_fits kind below next (moves_keep start ok s w p range (Head kind (suc below)) may) (traced (t kind below) (local_step.Head (m kind below))) (here kind below (λ i. local_step.Head i)) in
+      let fits = walk_fits kind below (climbing start ok s w p kind (suc below) may.0).high next (moves_keep start ok s w p range (Head kind (suc below)) may) (traced (t kind below) (local_step.Head (m kind below))) (here kind below (λ i. local_step.Head i)) in
       inl (local_fewer kind below (λ i. local_step.Head i) may.0
       (let less = head_drops (count kind below) start.shape.rows (t kind below) (inv kind below) (m kind below) (within kind below) n (cost kind below) fits may.1 in omega (arith, less)))
 
@@ -182,7 +182,7 @@ module _ (start : Start) (ok : IsStart start) (s : State) (w : Whole start s) (p
       let next : State = local start s kind (suc below) p (λ m. local_step.Peek m) in
       let same : moves start s p (Peek row field) ≡ next = ap (peeked_by start s p) climbs.0 in
       let w' : Whole start next = subst (Whole start) same (moves_keep start ok s w p range (Peek row field) may) in
-      let fits = walk_fits kind below next w' (traced (t kind below) (local_step.Peek (m kind below))) (here kind below (λ m. local_step.Peek m)) in
+      let fits = walk_fits kind below (climbing start ok s w p kind (suc below) climbs.0).high next w' (traced (t kind below) (local_step.Peek (m kind below))) (here kind below (λ m. local_step.Peek m)) in
       local_fewer kind below (λ m. local_step.Peek m) climbs.0
       (let less = peek_drops (count kind below) start.shape.rows (t kind below) (inv kind below) (m kind below) (within kind below) n (cost kind below) fits climbs.1 in omega (arith, less))
 

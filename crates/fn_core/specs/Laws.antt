@@ -194,7 +194,7 @@ HasLost s event = (kind : Kind) × (amount : ℕ) × (event.step ≡ Exchange ki
 
 -- n is at least the number of rows of each aggregator on the pass's way
 abbrev pub HoldsRows : Start → ℕ → ℕ → Type 0
-HoldsRows start pass n = (level : ℕ) → members start.shape level (aggregator start.shape pass level) * start.shape.rows ≤ n
+HoldsRows start pass n = (level : ℕ) → level ≤ start.shape.levels → members start.shape level (aggregator start.shape pass level) * start.shape.rows ≤ n
 
 -- each own step of a call leaves fewer, but for looks below its offset and exchanges that lose
 abbrev pub StepsRunOut : Type 0

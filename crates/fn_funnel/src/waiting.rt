@@ -5,6 +5,7 @@ ghost use Rattle.fn_core.specs.Machine.{IsChange, MaySpend};
 ghost use Rattle.fn_core.specs.Calls.{state_in, IsIdle};
 ghost use Rattle.fn_core.specs.Entries.{IsAlone};
 ghost use Rattle.fn_table.specs.Seen.{IsOf};
+ghost use Rattle.fn_climb.specs.Course.{Holds};
 ghost use Rattle.fn_climb.specs.Steps.{IsLater};
 ghost use Rattle.fn_direct.specs.Called.{call_of, HasCalled, HasMadeNone, Tried};
 ghost use Rattle.fn_funnel.specs.Waiting.{Waited, IsAnswered, IsStraight, Exchanges, is_one_step};
@@ -12,8 +13,8 @@ ghost use Rattle.fn_funnel.specs.Words.{Made};
 
 use crate::opening::Funnel;
 use crossbeam_utils::Backoff;
-use fn_climb::{Begun, Pending, Turn, begin};
-use fn_core::Blocked;
+use fn_climb::{Course, begin_on, poll_on};
+use fn_core::{Blocked, CoreStep};
 use fn_direct::{Lost, add_capped, add_direct, sub_direct};
 use fn_layout::Kind;
 use fn_model::NO_CAP;
@@ -59,7 +60,13 @@ pub fn sub<R: Wait>(rt: &R, funnel: &Funnel, pass: Pass, amount: u64) -> (Pass, 
 }
 
 // Makes a call through the funnel, or past it where it finds no row.
-fn call<R: Wait>(rt: &R, table: &FunnelTable, pass: Pass, kind: Kind, amount: u64) -> (Pass, Added)
+fn call<R: Wait>(
+    rt: &R,
+    table: &FunnelTable,
+    mut pass: Pass,
+    kind: Kind,
+    amount: u64,
+) -> (Pass, Added)
     requires together { IsOf table.now pass }
     requires idle { IsIdle pass.seen pass.number }
     requires change { IsChange kind }
@@ -68,13 +75,13 @@ fn call<R: Wait>(rt: &R, table: &FunnelTable, pass: Pass, kind: Kind, amount: u6
     ensures way { Waited pass kind amount result.1 result.0 }
 {
     let _in_range = pass.number();
-    match begin(table, pass, kind, amount) {
-        Begun::Waiting(pending) => {
-            let (pass, before) = await_reply(rt, table, pending);
+    match begin_on(table, &mut pass, kind, amount) {
+        Ok(course) => {
+            let before = await_reply(rt, table, &mut pass, course);
             let way = Way::Funnel;
             (pass, Added { before, way })
         }
-        Begun::NoRow(pass, blocked) => {
+        Err(blocked) => {
             let (pass, before) = go_straight(rt, table, pass, kind, amount);
             let way = Way::Direct(blocked);
             (pass, Added { before, way })
@@ -84,16 +91,18 @@ fn call<R: Wait>(rt: &R, table: &FunnelTable, pass: Pass, kind: Kind, amount: u6
 
 // Polls a call until it has its reply.
 #[inline(always)]
-fn await_reply<R: Wait>(rt: &R, table: &FunnelTable, pending: Pending) -> (Pass, u64)
-    requires together { IsOf table.now pending }
-    ensures { IsAnswered pending result.1 result.0 }
+fn await_reply<R: Wait>(rt: &R, table: &FunnelTable, pass: &mut Pass, course: Course) -> u64
+    requires together { IsOf table.now pass.old }
+    requires holds { Holds pass.old course }
+    ensures { IsAnswered pass.old result pass.new }
 {
     let backoff = Backoff::new();
-    let mut pending = pending;
+    let mut course = course;
     for _ in rt.forever() {
-        match pending.poll(table) {
-            Turn::Ready(pass, reply) => return (pass, reply),
-            Turn::NotYet(next, _) => pending = next,
+        match poll_on(table, pass, &mut course) {
+            CoreStep::Ready(reply) => return reply,
+            CoreStep::NotYet(_) => {}
+            CoreStep::Going => unreachable!(),
         }
         backoff.snooze();
     }

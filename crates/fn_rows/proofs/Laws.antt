@@ -132,6 +132,7 @@ module _ (members rows : ℕ) (s : Traced) (inv : Inv members rows s) where
     filled = λ m r q is. not_needed s q r ((filled_unneeded s s.total (IsOurs rows s m) (s.stage m) r is (inv.leading m)).1 q);
     mixed = none_needed;
     needed = needed_holds;
+    pointed = λ m at hi b r is. (subst (Leading s s.total (IsOurs rows s m)) is (inv.leading m)).2;
     awaited = λ a. let ch = subst IsChained a.1 inv.chained in (inv.standing a.2.0 a.0.lo a.0 (ap offset a.2.1) (subst (IsIn a.0) (sym a.1) (inl refl)) ch.1, inv.last_is ∙ ap link_of a.1);
     standing = inv.standing;
     in_hand = λ q at r h is.

@@ -1,7 +1,7 @@
 -- What holds in each state that allowed steps reach.
 use Rattle.std.specs.Prelude.{◌≡◌, ◌⊎◌, ℕ, zero, suc, ◌-◌, ◌*◌, ◌/◌, ◌<◌, ◌≤◌, ⊤, Bool, true, false, List, [], ◌∷◌, length, Option, Some, None}
 use Rattle.fn_rows.specs.Machine.{Saw, Stage, Lead, Shut, Based, Headed, FilledLo, FilledBase, Filled, Pointed, At, Over, Hit, Got, offset, Field, State, Step, Fill, Publish, after, Lets, Allowed}
-use Rattle.fn_rows.specs.Trace.{Batch, Traced}
+use Rattle.fn_rows.specs.Trace.{Batch, Traced, batch}
 
 -- the end of the newest batch
 abbrev pub end_of : List Batch → ℕ
@@ -128,6 +128,7 @@ pub record IsKept (members rows : ℕ) (s : Traced) : Type 0 where
   pub filled : (m r q : ℕ) → row_filled (s.stage m) ≡ Some r → Needs s.state q r → ⊥
   pub mixed : (m r q row : ℕ) → row_mixed (s.stage m) ≡ Some r → s.last ≡ suc r → Needs s.state q row → ⊥
   pub needed : (q r : ℕ) → Needs s.state q r → HoldsBatch s r
+  pub pointed : (m at hi b r : ℕ) → s.stage m ≡ Pointed at hi b r → s.linked ≡ batch s.state at hi b r ∷ s.published
   pub awaited : (a : IsAwaited s) → Stands s.state a.0 × (s.last ≡ suc a.0.row)
   pub standing : (q at : ℕ) (b : Batch) → HasArrived s.state q at → IsIn b s.linked → at < b.hi → Stands s.state b
   pub in_hand : (q at r : ℕ) → HasArrived s.state q at → row_in_hand (s.stage q) ≡ Some r → (b : Batch) × IsIn b s.linked × (b.row ≡ r) × Stands s.state b × (at < b.hi) × (IsIn b s.published ⊎ (at < b.lo))

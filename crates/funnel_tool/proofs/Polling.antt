@@ -27,7 +27,7 @@ members-few s level index =
     omega arith
 
 pub holds-rows : (start : Start) (pass : ℕ) → HoldsRows start pass (start.shape.passes * start.shape.rows)
-holds-rows start pass level = mul-le-mul_right start.shape.rows (members-few start.shape level (aggregator start.shape pass level))
+holds-rows start pass level inside = mul-le-mul_right start.shape.rows (members-few start.shape level (aggregator start.shape pass level))
 
 -- the steps that the pass's call has left at most
 abbrev pub left_steps : CoreLog → ℕ → ℕ

@@ -4,15 +4,15 @@ use Rattle.fn_funnel.proofs.Calls.{waited_through, waited_straight}
 use Rattle.fn_funnel.proofs.Claims.{made_waited}
 use Rattle.fn_funnel.proofs.waiting.call.Goals as goal
 
-pub returns-in-Waiting : goal.returns-in-Waiting
-returns-in-Waiting g c =
+pub returns-in-Ok : goal.returns-in-Ok
+returns-in-Ok g c =
     let legal = c.number-in_range.ensures.legal in
-    let waited = waited_through c.args.pass c.args.kind c.args.amount c.await_reply-pass.result.1 c.await_reply-pass.result.0 legal c.requires.idle c.in-Waiting.pending c.in-Waiting.ensures c.await_reply-pass.ensures in
-    record { made = made_waited c.args.pass c.args.kind c.args.amount (record { before = c.await_reply-pass.result.1; way = Funnel }) c.await_reply-pass.result.0 legal c.requires.idle waited; way = waited }
+    let waited = waited_through c.args.pass c.args.kind c.args.amount c.await_reply-before.result c.await_reply-before.new.pass legal c.requires.idle c.begin_on.new.pass c.in-Ok.ensures.begun.0 c.await_reply-before.ensures in
+    record { made = made_waited c.args.pass c.args.kind c.args.amount (record { before = c.await_reply-before.result; way = Funnel }) c.await_reply-before.new.pass legal c.requires.idle waited; way = waited }
 
-pub returns-in-NoRow : goal.returns-in-NoRow
-returns-in-NoRow g c =
+pub returns-in-Err : goal.returns-in-Err
+returns-in-Err g c =
     let legal = c.number-in_range.ensures.legal in
     let inside : c.args.pass.number < c.args.pass.seen.start.shape.passes = omega (arith, c.number-in_range.ensures.in_range, c.number-in_range.ensures.number) in
-    let waited = waited_straight c.args.pass c.args.kind c.args.amount c.go_straight-pass.result.1 c.go_straight-pass.result.0 legal c.requires.idle inside c.in-NoRow.pass c.in-NoRow.blocked c.in-NoRow.ensures c.go_straight-pass.ensures.way c.go_straight-pass.ensures.called c.go_straight-pass.ensures.alone in
-    record { made = made_waited c.args.pass c.args.kind c.args.amount (record { before = c.go_straight-pass.result.1; way = Direct c.in-NoRow.blocked }) c.go_straight-pass.result.0 legal c.requires.idle waited; way = waited }
+    let waited = waited_straight c.args.pass c.args.kind c.args.amount c.go_straight-pass.result.1 c.go_straight-pass.result.0 legal c.requires.idle inside c.begin_on.new.pass c.in-Err.blocked c.in-Err.ensures.refused c.go_straight-pass.ensures.way c.go_straight-pass.ensures.called c.go_straight-pass.ensures.alone in
+    record { made = made_waited c.args.pass c.args.kind c.args.amount (record { before = c.go_straight-pass.result.1; way = Direct c.in-Err.blocked }) c.go_straight-pass.result.0 legal c.requires.idle waited; way = waited }

@@ -1,0 +1,11 @@
+use Rattle.fn_climb.proofs.Refusals.{opened_rows, begun_waiting, begun_refused}
+use Rattle.fn_climb.proofs.beginning.begin_on.Goals as goal
+
+pub arrive_at_leaf-requires-clause-open_rows : goal.arrive_at_leaf-requires-clause-open_rows
+arrive_at_leaf-requires-clause-open_rows c = opened_rows c.args.pass.now c.args.kind c.args.amount c.in-Ok.rows c.find_rows.new.pass c.in-Ok.ensures
+
+pub returns-in-Ok-clause-begun : goal.returns-in-Ok-clause-begun
+returns-in-Ok-clause-begun c = (begun_waiting c.args.pass.now c.args.kind c.args.amount c.in-Ok.rows c.find_rows.new.pass c.arrive_at_leaf.new.pass c.in-Ok.ensures c.arrive_at_leaf.ensures.arrived, c.arrive_at_leaf.ensures.holds)
+
+pub returns-in-Err-clause-refused : goal.returns-in-Err-clause-refused
+returns-in-Err-clause-refused c = begun_refused c.args.pass.now c.args.kind c.args.amount c.in-Err.blocked c.find_rows.new.pass c.requires.idle c.in-Err.ensures

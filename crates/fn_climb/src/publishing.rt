@@ -1,0 +1,58 @@
+// A batch that has its base is filled into a row and published, step by step.
+ghost use Rattle.std.specs.Prelude.{◌≡◌, List, None};
+ghost use Rattle.fn_core.specs.declared.Move.{Move as Moves};
+ghost use Rattle.fn_rows.specs.declared.Stage.TheVariants as stage;
+ghost use Rattle.fn_table.specs.Seen.{IsOf};
+ghost use Rattle.fn_climb.specs.Course.{held_at, Holds};
+ghost use Rattle.fn_climb.specs.Turns.{GoesOn};
+
+use crate::course::Course;
+use fn_layout::Field;
+use fn_rows::Stage;
+use fn_table::{FunnelTable, Pass, fill, head, point, publish};
+
+/// Where the call has got a base for its batch, takes the steps that fill its row and publish it.
+#[inline(always)]
+pub fn publish_based(table: &FunnelTable, pass: &mut Pass, course: &mut Course)
+    requires together { IsOf table.now pass.old }
+    requires holds { Holds pass.old course.old }
+    ensures steps { (steps : List Moves) × GoesOn pass.old steps pass.new }
+    ensures holds { Holds pass.new course.new }
+{
+    if course.word.is_none() {
+        match course.held_at(course.level) {
+            Stage::Based(at, hi, base) => publish_batch(table, pass, course, at, hi, base),
+            _ => {}
+        }
+    }
+}
+
+// Takes the steps from the base of a batch up to where its call may leave the aggregator.
+#[inline(always)]
+fn publish_batch(
+    table: &FunnelTable,
+    pass: &mut Pass,
+    course: &mut Course,
+    at: u64,
+    hi: u64,
+    base: u64,
+)
+    requires together { IsOf table.now pass.old }
+    requires holds { Holds pass.old course.old }
+    requires free { course.old.word ≡ None }
+    requires based { held_at course.old course.old.level ≡ stage.Based at hi base }
+    ensures steps { (steps : List Moves) × GoesOn pass.old steps pass.new }
+    ensures holds { Holds pass.new course.new }
+{
+    let (shape, kind, level) = (table.shape(), course.kind, course.level);
+    let number = pass.number();
+    let own = course.rows[(level - 1) as usize];
+    let row = shape.row_of(number, kind, level, own);
+    let last = head(table, pass, kind, level);
+    fill(table, pass, row, Field::Lo, at);
+    fill(table, pass, row, Field::Base, base);
+    fill(table, pass, row, Field::Prev, last);
+    point(table, pass, kind, level, row);
+    publish(table, pass, kind, level, hi);
+    course.go_to(level, Stage::Got(base, 0));
+}
