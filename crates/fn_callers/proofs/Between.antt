@@ -9,11 +9,11 @@ use Rattle.fn_table.specs.Seen.{PassView}
 use Rattle.fn_climb.specs.Begin.{BeginAnswers}
 use Rattle.fn_climb.specs.Turns.{Polled}
 use Rattle.fn_climb.specs.declared.beginning.Begun.TheVariants.{Waiting, NoRow}
-use Rattle.fn_climb.proofs.Later.{later_on}
-use Rattle.fn_callers.specs.Words.{Rests, Made, MadeNone}
+use Rattle.fn_table.proofs.Later.{later_on}
+use Rattle.fn_table.specs.Claims.{Rests, Made, MadeNone}
 use Rattle.fn_callers.specs.Standing.{HasCome}
-use Rattle.fn_callers.proofs.Funnelled.{funnelled}
-use Rattle.fn_callers.proofs.Claims.{made_none}
+use Rattle.fn_climb.proofs.Funnelled.{funnelled}
+use Rattle.fn_table.proofs.Claims.{made_none}
 use Rattle.fn_callers.proofs.Once.{none_since, made_once}
 
 -- a call that has just begun

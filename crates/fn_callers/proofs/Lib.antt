@@ -1,5 +1,3 @@
-mod Funnelled
-mod Claims
 mod Once
 mod Between
 mod Stands

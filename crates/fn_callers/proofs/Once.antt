@@ -4,13 +4,14 @@ use Rattle.fn_model.specs.declared.Kind.{Kind}
 use Rattle.fn_core.specs.declared.Start.{Start}
 use Rattle.fn_core.specs.Calls.{IsLegal, IsIdle}
 use Rattle.fn_table.specs.Seen.{PassView, own_of}
-use Rattle.fn_climb.specs.Steps.{IsLater}
+use Rattle.fn_table.specs.Later.{IsLater}
 use Rattle.fn_direct.proofs.Joined.{none_made}
 use Rattle.fn_direct.specs.declared.Lost.{Lost}
-use Rattle.fn_direct.specs.Called.{call_of, HasCalled, HasMadeNone, Tried}
-use Rattle.fn_callers.specs.Words.{Rests, Made, MadeNone}
-use Rattle.fn_callers.proofs.Funnelled.{within_cap}
-use Rattle.fn_callers.proofs.Claims.{made_by, made_none}
+use Rattle.fn_table.specs.Called.{call_of, HasCalled, HasMadeNone}
+use Rattle.fn_direct.specs.Tries.{Tried}
+use Rattle.fn_table.specs.Claims.{Rests, Made, MadeNone}
+use Rattle.fn_table.proofs.Claims.{within_cap}
+use Rattle.fn_table.proofs.Claims.{made_by, made_none}
 
 -- a pass that has the same caller as before has made no call
 pub none_since : (p q : PassView) → p.number < p.seen.start.shape.passes → IsIdle p.seen p.number → IsLater p q → (own_of q).caller ≡ (own_of p).caller → HasMadeNone p q

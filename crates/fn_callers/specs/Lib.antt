@@ -1,4 +1,3 @@
-pub mod Words
 pub mod Callers
 pub mod Standing
 pub mod Opening

@@ -7,10 +7,11 @@ use Rattle.fn_model.specs.declared.Kind.{Kind}
 use Rattle.fn_core.specs.Calls.{IsLegal}
 use Rattle.fn_table.specs.Seen.{TableView, PassView, IsOf}
 use Rattle.fn_climb.specs.Begin.{HasBegun}
-use Rattle.fn_climb.specs.Steps.{IsLater, HasSameCall}
+use Rattle.fn_table.specs.Later.{IsLater}
+use Rattle.fn_climb.specs.Steps.{HasSameCall}
 use Rattle.fn_callers.specs.declared.caller.Standing.{Standing}
 use Rattle.fn_callers.specs.declared.caller.Standing.TheVariants.{Idle, Waits, Away}
-use Rattle.fn_callers.specs.Words.{Rests}
+use Rattle.fn_table.specs.Claims.{Rests}
 use Rattle.fn_callers.specs.Callers.{Begun}
 
 -- its pass; in the hands of a call, the one that it had first

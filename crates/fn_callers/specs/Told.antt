@@ -10,7 +10,7 @@ use Rattle.fn_model.specs.declared.Kind.TheVariants.{Add}
 use Rattle.fn_core.specs.Machine.{no_cap}
 use Rattle.fn_callers.specs.declared.caller.Reason.{Reason}
 use Rattle.fn_callers.specs.declared.caller.Reason.TheVariants as why
-use Rattle.fn_callers.specs.Words.{past, left, Made, MadeNone}
+use Rattle.fn_table.specs.Claims.{past, left, Made, MadeNone}
 use Rattle.fn_callers.specs.Callers.{Begun, CallerView, IsFree, HasCall}
 
 -- the caller has so much left, and the amount isn't 0

@@ -11,7 +11,8 @@ use Rattle.fn_climb.specs.Begin.{BeginAnswers}
 use Rattle.fn_climb.specs.Turns.{Polled}
 use Rattle.fn_climb.specs.declared.beginning.Begun.TheVariants as climb
 use Rattle.fn_direct.specs.declared.Lost.{Lost}
-use Rattle.fn_direct.specs.Called.{HasCalled, HasMadeNone, Tried}
+use Rattle.fn_table.specs.Called.{HasCalled, HasMadeNone}
+use Rattle.fn_direct.specs.Tries.{Tried}
 use Rattle.fn_callers.specs.declared.caller.Reason.{Reason}
 use Rattle.fn_callers.specs.declared.caller.Reason.TheVariants as why
 use Rattle.fn_callers.specs.Callers.{CallerView}

@@ -2,8 +2,8 @@
 ghost use Rattle.std.specs.Prelude.{◌≡◌, IfOk, IsSome, IsTrue};
 ghost use Rattle.fn_model.specs.declared.Kind.TheVariants.{Add, Sub, Read};
 ghost use Rattle.fn_core.specs.Machine.{IsChange};
-ghost use Rattle.fn_direct.specs.Called.{HasCalled};
-ghost use Rattle.fn_callers.specs.Words.{Made};
+ghost use Rattle.fn_table.specs.Called.{HasCalled};
+ghost use Rattle.fn_table.specs.Claims.{Made};
 ghost use Rattle.fn_callers.specs.Told.{LoadTold, ChangeTold, BeginTold, PollTold, HasMade, LeftTold, CloseTold};
 ghost use Rattle.fn_callers.specs.Ways.{ChangeWay, BeginWay, PollWay};
 
@@ -79,7 +79,7 @@ impl Model for Caller {
 impl Caller {
     ghost use Rattle.std.specs.Arc.{arc_value};
     ghost use Rattle.fn_table.specs.Seen.{IsOf};
-    ghost use Rattle.fn_callers.specs.Words.{Rests};
+    ghost use Rattle.fn_table.specs.Claims.{Rests};
     ghost use Rattle.fn_callers.specs.Callers.{at_rest, HasCall};
 
     /// A caller that has no call underway.

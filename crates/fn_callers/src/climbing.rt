@@ -6,10 +6,10 @@ ghost use Rattle.fn_core.specs.declared.answer.Blocked.{Blocked};
 ghost use Rattle.fn_core.specs.Machine.{IsChange};
 ghost use Rattle.fn_table.specs.Seen.{IsOf};
 ghost use Rattle.fn_climb.specs.Begin.{BeginAnswers};
-ghost use Rattle.fn_climb.specs.Steps.{IsLater};
+ghost use Rattle.fn_table.specs.Later.{IsLater};
 ghost use Rattle.fn_climb.specs.Turns.{Polled};
 ghost use Rattle.fn_climb.specs.declared.beginning.Begun.TheVariants as begun;
-ghost use Rattle.fn_callers.specs.Words.{left, Rests, Made, MadeNone};
+ghost use Rattle.fn_table.specs.Claims.{left, Rests, Made, MadeNone};
 ghost use Rattle.fn_callers.specs.Standing.{HasCome};
 
 use crate::caller::Waiting;

@@ -3,9 +3,10 @@ ghost use Rattle.std.specs.Prelude.{◌≡◌, ◌≢◌, ◌≤◌, IfErr, IfOk
 ghost use Rattle.fn_model.specs.declared.Kind.TheVariants.{Add, Read};
 ghost use Rattle.fn_core.specs.Machine.{IsChange, no_cap};
 ghost use Rattle.fn_table.specs.Seen.{IsOf};
-ghost use Rattle.fn_climb.specs.Steps.{IsLater};
-ghost use Rattle.fn_direct.specs.Called.{HasCalled, HasMadeNone, Tried};
-ghost use Rattle.fn_callers.specs.Words.{left, Rests, Made, MadeNone};
+ghost use Rattle.fn_table.specs.Later.{IsLater};
+ghost use Rattle.fn_table.specs.Called.{HasCalled, HasMadeNone};
+ghost use Rattle.fn_direct.specs.Tries.{Tried};
+ghost use Rattle.fn_table.specs.Claims.{left, Rests, Made, MadeNone};
 ghost use Rattle.fn_callers.specs.Ways.{HasLost};
 
 use fn_direct::{Lost, add_capped, add_direct, read, sub_direct};

@@ -2,7 +2,7 @@
 ghost use Rattle.std.specs.Prelude.{◌≡◌, All, IfOk, MatchResult, None, map};
 ghost use Rattle.std.specs.Arc.{arc_value};
 ghost use Rattle.fn_table.specs.Seen.{IsOf};
-ghost use Rattle.fn_callers.specs.Words.{Rests};
+ghost use Rattle.fn_table.specs.Claims.{Rests};
 ghost use Rattle.fn_callers.specs.Callers.{at_rest};
 ghost use Rattle.fn_callers.specs.Opening.{AreCallers, open_fault, TellsFault};
 

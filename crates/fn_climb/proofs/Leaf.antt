@@ -22,9 +22,9 @@ use Rattle.fn_core.proofs.Laws.{holds}
 use Rattle.fn_table.specs.Seen.{PassView, May, Stepped, own_of}
 use Rattle.fn_climb.specs.declared.course.Course.{Course}
 use Rattle.fn_climb.specs.Course.{Holds}
-use Rattle.fn_climb.specs.Steps.{IsLater}
+use Rattle.fn_table.specs.Later.{IsLater}
 use Rattle.fn_climb.specs.Begin.{IsOpen, AreOpen, Arrived}
-use Rattle.fn_climb.proofs.Later.{later_by, later_on}
+use Rattle.fn_table.proofs.Later.{later_by, later_on}
 use Rattle.fn_climb.proofs.Goes.{level_same, level_other}
 use Rattle.fn_climb.proofs.Scans.{same_put}
 use Rattle.fn_climb.proofs.Every.{open_still}

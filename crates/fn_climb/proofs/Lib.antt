@@ -1,4 +1,3 @@
-pub mod Later
 pub mod Links
 pub mod Underway
 pub mod Onward
@@ -13,3 +12,4 @@ pub mod Levels
 pub mod Every
 pub mod Leaf
 pub mod Refusals
+pub mod Funnelled

@@ -37,7 +37,7 @@ use Rattle.fn_core.proofs.Measure.{others_cost_nothing, steps_run_out}
 use Rattle.fn_core.proofs.Follows.{legal_parts, run_parts, in_call, follows, few_left}
 use Rattle.fn_table.specs.Funnel.{funnel}
 use Rattle.fn_table.specs.Seen.{PassView, Stepped, own_of, event, events_of, with_log}
-use Rattle.fn_climb.proofs.Later.{later_by}
+use Rattle.fn_table.proofs.Later.{later_by}
 use Rattle.fn_table.proofs.OwnCalls.{legal_before as legal_until, own_before as own_until, allowed_then}
 use Rattle.fn_climb.specs.declared.course.Course.{Course}
 use Rattle.fn_climb.specs.Course.{position_by, IsCourseOf, HasChosen, Holds}

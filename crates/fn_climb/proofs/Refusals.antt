@@ -21,9 +21,9 @@ use Rattle.fn_model.specs.declared.Call.{Call}
 use Rattle.fn_core.specs.State.{Caller}
 use Rattle.fn_core.specs.Calls.{IsIdle}
 use Rattle.fn_layout.specs.Tree.{IsLevel}
-use Rattle.fn_climb.specs.Steps.{IsLater}
+use Rattle.fn_table.specs.Later.{IsLater}
 use Rattle.fn_climb.specs.Begin.{EndsAtLeaf, IsOpen, AreOpen, HasBegun, Taken, Takes, scan_taken, row_takings, level_takings, scan_takings, finds_of, first_takings, IsLastLoad, RowsTried, Arrived, IsBeginning, IsHeld, IsRefused}
-use Rattle.fn_climb.proofs.Later.{later_on}
+use Rattle.fn_table.proofs.Later.{later_on}
 use Rattle.fn_climb.proofs.Scans.{takes_on, idle_still}
 
 map-flat_map : {A B C : Type 0} (f : B → C) (g : A → List B) (xs : List A) → map f (flat_map g xs) ≡ flat_map (λ x. map f (g x)) xs

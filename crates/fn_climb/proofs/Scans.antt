@@ -26,7 +26,7 @@ use Rattle.fn_core.proofs.Tries.{range_end, filter_keeps, filter_skips}
 use Rattle.fn_table.specs.Seen.{TableView, PassView, IsOf, May, Stepped, own_of, event}
 use Rattle.fn_table.proofs.Spares.{level_case}
 use Rattle.fn_climb.specs.Begin.{Taken, Takes, scan_taken, blocked_load, IsStill, RowTried}
-use Rattle.fn_climb.proofs.Later.{later_by, later_on, of_later}
+use Rattle.fn_table.proofs.Later.{later_by, later_on, of_later}
 use Rattle.fn_climb.proofs.Goes.{level_same}
 use Rattle.fn_climb.proofs.Along.{flat_map-one, yields, finds_first, Along, along_start, along_skip, along_past, along_stop, along_through}
 

@@ -31,7 +31,7 @@ use Rattle.fn_table.specs.Seen.{PassView, event, with_log}
 use Rattle.fn_climb.specs.Next.{IsNext}
 use Rattle.fn_climb.specs.Steps.{HasSameCall, Went}
 use Rattle.fn_climb.specs.Turns.{GoesOn, Polled}
-use Rattle.fn_climb.proofs.Later.{prefix_on}
+use Rattle.running.proofs.Logs.{prefix_on}
 use Rattle.fn_climb.proofs.Onward.{joined_from}
 
 -- no aggregator has more rows than all passes have

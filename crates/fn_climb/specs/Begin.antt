@@ -18,7 +18,7 @@ use Rattle.fn_core.specs.Words.{Own}
 use Rattle.fn_core.specs.Calls.{IsIdle}
 use Rattle.fn_core.specs.Begin.{Finds, WaitsAtLeaf, up_to, blocker_by, scanned_by, rows_tried_by, has_open_by, is_full_by, full_level_by, begin_moves_by}
 use Rattle.fn_table.specs.Seen.{PassView, Stepped, own_of}
-use Rattle.fn_climb.specs.Steps.{IsLater}
+use Rattle.fn_table.specs.Later.{IsLater}
 use Rattle.fn_climb.specs.declared.beginning.Begun.{Begun}
 use Rattle.fn_climb.specs.declared.beginning.Begun.TheVariants.{Waiting, NoRow}
 

@@ -1,6 +1,5 @@
 -- What the steps of a call tell.
 --     StepAnswers pass answer      what a step answers
---     IsLater pass after      the same pass, which has seen more
 --     Replied pass reply      what holds of a reply besides
 --     Went pass told after      the pass took the next step of its call, which told this
 --     Advanced pass told after course      .. and its course has kept up
@@ -11,21 +10,14 @@ use Rattle.fn_core.specs.declared.answer.CoreStep.{CoreStep}
 use Rattle.fn_core.specs.declared.answer.CoreStep.TheVariants as told
 use Rattle.fn_core.specs.declared.Event.{Event}
 use Rattle.fn_model.specs.Calls.{place}
-use Rattle.fn_core.specs.Calls.{CoreLog, state_in, calls_in, IsLegal, HasCall, step_answer, Follows, HasFewLeft}
+use Rattle.fn_core.specs.Calls.{CoreLog, state_in, calls_in, HasCall, step_answer, Follows, HasFewLeft}
 use Rattle.fn_table.specs.Seen.{PassView, Stepped, own_of, with_log}
+use Rattle.fn_table.specs.Later.{IsLater}
 use Rattle.fn_climb.specs.declared.course.Course.{Course}
 use Rattle.fn_climb.specs.Course.{Holds}
 use Rattle.fn_climb.specs.Next.{IsNext}
 use Rattle.fn_climb.specs.declared.pending.Step.{Step}
 use Rattle.fn_climb.specs.declared.pending.Step.TheVariants.{Going, Ready, NotYet}
-
--- the same pass of the same table, whose legal log goes on from the old one
-pub record IsLater (p q : PassView) : Type 0 where
-  pub table : q.table ≡ p.table
-  pub number : q.number ≡ p.number
-  pub start : q.seen.start ≡ p.seen.start
-  pub begins : IsPrefix p.seen.log q.seen.log
-  pub legal : IsLegal q.seen
 
 -- the pass has made as many calls, its last call is the same one, and it has as much left of its allowance
 pub record HasSameCall (p q : PassView) : Type 0 where

@@ -10,7 +10,8 @@ use Rattle.fn_core.specs.Laws.{HoldsRows}
 use Rattle.fn_core.specs.Calls.{Follows}
 use Rattle.fn_core.specs.Polls.{is_going, exchanges}
 use Rattle.fn_table.specs.Seen.{PassView}
-use Rattle.fn_climb.specs.Steps.{IsLater, HasSameCall, HasReplied, Went}
+use Rattle.fn_table.specs.Later.{IsLater}
+use Rattle.fn_climb.specs.Steps.{HasSameCall, HasReplied, Went}
 use Rattle.fn_climb.specs.declared.polling.Turn.{Turn}
 use Rattle.fn_climb.specs.declared.polling.Turn.TheVariants.{Ready, NotYet}
 

@@ -10,8 +10,6 @@ mod publishing;
 mod row_words;
 mod stepping;
 
-ghost use Rattle.fn_climb.specs.Later.{StepsAreLater, LaterPassesGoOn, LaterPassesStayAtTheirTable};
-
 pub use beginning::{Begun, begin, begin_on};
 pub use course::Course;
 pub use fn_core::{Blocked, Why};
@@ -19,13 +17,6 @@ pub use fn_layout::Kind;
 pub use fn_table::{FunnelTable, Pass};
 pub use pending::{Pending, Step};
 pub use polling::{Turn, poll_on};
-
-/// A pass has seen more after each of its steps, and after each in which it goes on from there, at the same table.
-pub fn later_passes()
-    ensures steps { StepsAreLater }
-    ensures go_on { LaterPassesGoOn }
-    ensures table { LaterPassesStayAtTheirTable }
-{}
 
 #[cfg(test)]
 mod tests;

@@ -20,9 +20,7 @@ mod opening;
 mod order;
 
 pub use answer::{Answer, Blocked, CoreBegun, CoreStep, NoMemory, OpenFault, Why};
-pub use fn_layout::Shape;
-use fn_model::Kind;
-use fn_rows::Field;
+pub use fn_layout::{Field, Kind, Shape};
 pub use funnel::Core;
 use std::marker::Model;
 

@@ -31,7 +31,7 @@ use Rattle.fn_core.proofs.Grows.{histories_grow, places_are_beyond, replies_are_
 use Rattle.fn_core.proofs.Laws.{direct_replies_are_right}
 use Rattle.fn_table.specs.Seen.{PassView, Stepped, event, own_of, with_log}
 use Rattle.fn_table.proofs.OwnCalls.{own_kept, legal_now, is_start, legal_before, allowed_then, own_before, made_before, caller_now}
-use Rattle.fn_direct.specs.Called.{call_of, HasCalled, HasMadeNone}
+use Rattle.fn_table.specs.Called.{call_of, HasCalled, HasMadeNone}
 
 -- From the log that an idle pass had seen to a later one, by which it has made no call, and then makes one
 module _ (p : PassView) (range : p.number < p.seen.start.shape.passes) (before : List Event) (ok : IsStart p.seen.start) (legal : Legal p.seen.start before (opened p.seen.start)) (begins : IsPrefix p.seen.log before)

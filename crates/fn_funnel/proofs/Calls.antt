@@ -10,21 +10,20 @@ use Rattle.fn_core.proofs.Entered.{entries_stay}
 use Rattle.fn_core.specs.Entries.{IsAlone}
 use Rattle.fn_table.specs.Seen.{PassView}
 use Rattle.fn_climb.specs.Begin.{BeginAnswers}
-use Rattle.fn_climb.specs.Steps.{IsLater}
+use Rattle.fn_table.specs.Later.{IsLater}
 use Rattle.fn_climb.specs.declared.beginning.Begun.TheVariants.{Waiting, NoRow}
-use Rattle.fn_climb.proofs.Later.{later_on}
-use Rattle.fn_direct.specs.Called.{call_of, HasCalled}
+use Rattle.fn_table.proofs.Later.{later_on}
+use Rattle.fn_table.specs.Called.{call_of, HasCalled}
 use Rattle.fn_direct.proofs.Joined.{called_since}
 use Rattle.fn_funnel.specs.declared.waiting.Way.{Way}
 use Rattle.fn_funnel.specs.declared.waiting.Way.TheVariants.{Funnel, Direct}
 use Rattle.fn_funnel.specs.Waiting.{Waited, HasEntered, IsAnswered, IsStraight, is_one_step}
-use Rattle.fn_funnel.proofs.Funnelled.{polls_keep, within_cap, funnelled, batched}
+use Rattle.fn_funnel.proofs.Polls.{polls_keep}
+use Rattle.fn_table.proofs.Claims.{within}
+use Rattle.fn_climb.proofs.Funnelled.{funnelled, batched}
 use Rattle.fn_funnel.proofs.Straight.{later_straight, none_since, same_call}
 
 module _ (p : PassView) (kind : Kind) (amount reply : ℕ) (q : PassView) (legal : IsLegal p.seen) (idle : IsIdle p.seen p.number) where
-  within : IsLater p q → HasCalled p kind amount reply q → reply ≤ p.seen.start.cap
-  within later called = subst (λ (s : Start). reply ≤ s.cap) later.start (within_cap q.seen (call_of p kind amount) reply later.legal called.met)
-
   pub waited_through : (b : PassView) → BeginAnswers p kind amount (Waiting b) → IsAnswered b reply q → Waited p kind amount (record { before = reply; way = Funnel }) q
   waited_through b begins answered =
       let first = begins.1.later in
@@ -35,7 +34,7 @@ module _ (p : PassView) (kind : Kind) (amount reply : ℕ) (q : PassView) (legal
       record {
         later = later;
         called = called;
-        within = within later called;
+        within = within p kind amount reply q later called;
         way = record { begun = b; begins = begins; answered = answered };
         entered = batched p b q kind amount reply begins.3 (later_on b answered.until q polls.0 answered.polled.later) called.met;
       }
@@ -49,7 +48,7 @@ module _ (p : PassView) (kind : Kind) (amount reply : ℕ) (q : PassView) (legal
       record {
         later = later;
         called = called;
-        within = within later called;
+        within = within p kind amount reply q later called;
         way = record { refused = r; begins = begins; straight = subst (λ (s : Start). IsStraight (is_one_step kind s.cap) r kind amount reply q) first.start straight };
         entered = subst (λ (call : Call). IsAlone q.seen call) (same_call p r kind amount first.number none.made) alone;
       }

@@ -1,58 +1,14 @@
--- What a call tells, in the words of the integer and its history.
-use Rattle.std.proofs.Common.{◌≡◌, ℕ, ◌+◌, ◌≤◌, length, [], ◌∷◌, ◌++◌, inl, inr, sym, ◌∙◌, ap, subst}
-use Rattle.fn_model.specs.declared.Call.{Call}
+-- A call that has waited for its reply is made.
+use Rattle.std.proofs.Common.{ℕ}
 use Rattle.fn_model.specs.declared.Kind.{Kind}
-use Rattle.fn_model.specs.Calls.{own, place}
-use Rattle.fn_model.specs.Integer.{Meets}
-use Rattle.fn_core.specs.declared.Start.{Start}
-use Rattle.fn_core.specs.Calls.{IsLegal, IsIdle, left_of}
-use Rattle.fn_core.proofs.Orders.{histories_go_on}
-use Rattle.fn_core.proofs.Owned.{own_calls_are_in_order}
-use Rattle.fn_table.specs.Seen.{PassView, own_of}
-use Rattle.fn_climb.specs.Steps.{IsLater}
-use Rattle.fn_direct.specs.Called.{call_of, HasCalled, HasMadeNone}
+use Rattle.fn_core.specs.Calls.{IsLegal}
+use Rattle.fn_table.specs.Seen.{PassView}
+use Rattle.fn_table.specs.Claims.{Rests, Made}
+use Rattle.fn_table.proofs.Claims.{made_by}
 use Rattle.fn_funnel.specs.Waiting.{Waited}
 use Rattle.fn_funnel.specs.declared.waiting.Added.{Added}
-use Rattle.fn_funnel.specs.Words.{past, mine, Rests, next_of, Made, MadeNone}
-use Rattle.fn_funnel.proofs.Funnelled.{none_underway}
 
--- a pass that rests has as many own calls in its history as it has made
-pub own_count : (p : PassView) → IsLegal p.seen → Rests p → length (mine p) ≡ (own_of p).caller.made
-own_count p legal rests = elim (own_calls_are_in_order p.seen.start p.seen.log legal.0 legal.1 p.number).1 [
-  | inl all ↦ all
-  | inr one ↦ absurd (none_underway p.seen p.number legal rests one.1)
-]
-
--- so the call that it makes next is the one that comes behind its own calls
-pub next_is : (p : PassView) (kind : Kind) (amount : ℕ) → IsLegal p.seen → Rests p → call_of p kind amount ≡ next_of p kind amount
-next_is p kind amount legal rests = λ i. record { pass = p.number; number = sym (own_count p legal rests) i; kind = kind; amount = amount }
-
--- A call that a pass has made, as its steps tell it, is made in these words too
-pub made_by : (p : PassView) (kind : Kind) (amount reply : ℕ) (q : PassView) → IsLegal p.seen → Rests p → IsLater p q → HasCalled p kind amount reply q → reply ≤ p.seen.start.cap → Made p kind amount reply q
-made_by p kind amount reply q legal rests later called within =
-    let next = next_is p kind amount legal rests in
-    let number = own_count p legal rests in
-    record {
-      same = (later.table, later.number, later.start);
-      goes_on = histories_go_on p.seen q.seen later.legal later.start later.begins;
-      mine_now = ap (λ (n : ℕ). own n (past q)) later.number ∙ called.joined ∙ ap (λ (call : Call). mine p ++ call ∷ []) next;
-      behind = λ at stands. called.beyond at (ap (λ (n : ℕ). place p.number n (past q)) (sym number) ∙ stands);
-      met = subst (λ (call : Call). Meets p.seen.start.cap p.seen.start.opening (past q) call reply) next (subst (λ (s : Start). Meets s.cap s.opening (past q) (call_of p kind amount) reply) later.start called.met);
-      within = within;
-      spent = ap (λ (n : ℕ). left_of q.seen n + amount) later.number ∙ called.spent;
-      rests = subst (λ (n : ℕ). IsIdle q.seen n) (sym later.number) called.idle;
-    }
-
--- .. and so is a call that has waited for its reply
+-- a call that has waited, as its steps tell it, is made in the words of the integer and its history
 pub made_waited : (p : PassView) (kind : Kind) (amount : ℕ) (added : Added) (q : PassView) → IsLegal p.seen → Rests p → Waited p kind amount added q → Made p kind amount added.before q
 made_waited p kind amount added q legal rests waited = made_by p kind amount added.before q legal rests waited.later waited.called waited.within
 
--- a pass that has made no call, as its steps tell it, has made none in these words too
-pub made_none : (p q : PassView) → IsLater p q → HasMadeNone p q → MadeNone p q
-made_none p q later none = record {
-  same = (later.table, later.number, later.start);
-  goes_on = histories_go_on p.seen q.seen later.legal later.start later.begins;
-  mine_now = ap (λ (n : ℕ). own n (past q)) later.number ∙ none.calls;
-  spent = ap (λ (n : ℕ). left_of q.seen n) later.number ∙ none.left;
-  rests = subst (λ (n : ℕ). IsIdle q.seen n) (sym later.number) none.idle;
-}

@@ -1,4 +1,4 @@
-pub mod Funnelled
+pub mod Polls
 pub mod Straight
 pub mod Calls
 pub mod Claims

@@ -8,13 +8,15 @@ use Rattle.fn_core.specs.Entries.{IsAlone}
 use Rattle.fn_core.specs.declared.Purpose.TheVariants as purpose
 use Rattle.fn_core.specs.declared.Move.TheVariants.{Load, Exchange, Direct}
 use Rattle.fn_table.specs.Seen.{TableView, PassView, IsOf, own_of}
-use Rattle.fn_climb.specs.Steps.{IsLater}
-use Rattle.fn_climb.proofs.Later.{later_by, later_on, of_later}
+use Rattle.fn_table.specs.Later.{IsLater}
+use Rattle.fn_table.proofs.Later.{later_by, later_on, of_later}
 use Rattle.fn_direct.specs.declared.Lost.{Lost}
-use Rattle.fn_direct.specs.Called.{call_of, HasCalled, HasMadeNone, Tried}
+use Rattle.fn_table.specs.Called.{call_of, HasCalled, HasMadeNone}
+use Rattle.fn_direct.specs.Tries.{Tried}
+use Rattle.fn_direct.proofs.Told.{later_tried}
 use Rattle.fn_direct.proofs.Joined.{none_made, called_since}
 use Rattle.fn_funnel.specs.Waiting.{TriesInVain, Exchanges, IsStraight}
-use Rattle.fn_funnel.proofs.Funnelled.{later_none}
+use Rattle.fn_table.proofs.Later.{later_none}
 
 -- the pass has tried so far in vain: it has seen more, and made no call
 pub record HasTried (t : TableView) (p : PassView) (kind : Kind) (amount : ℕ) (q : PassView) : Type 0 where
@@ -25,10 +27,6 @@ pub record HasTried (t : TableView) (p : PassView) (kind : Kind) (amount : ℕ) 
   pub none : HasMadeNone p q
   pub idle : IsIdle q.seen q.number
   pub may : MaySpend (state_in q.seen) q.number amount
-
--- two steps
-pub later_tried : (p : PassView) (kind : Kind) (amount loaded found : ℕ) (q : PassView) → Tried p kind amount loaded found q → IsLater p q
-later_tried p kind amount loaded found q t = later_on p t.between q (later_by p (Load purpose.Try) loaded t.between t.load) (later_by t.between (Exchange kind amount) found q t.exchange)
 
 -- so often in vain
 later_tries : (p : PassView) (kind : Kind) (amount : ℕ) (losts : List Lost) (q : PassView) → IsLegal p.seen → TriesInVain p kind amount losts q → IsLater p q

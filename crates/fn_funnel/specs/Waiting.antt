@@ -19,11 +19,12 @@ use Rattle.fn_core.specs.Calls.{CoreLog}
 use Rattle.fn_core.specs.Entries.{IsAlone, IsBatched}
 use Rattle.fn_table.specs.Seen.{PassView, Stepped}
 use Rattle.fn_climb.specs.Begin.{BeginAnswers}
-use Rattle.fn_climb.specs.Steps.{IsLater}
+use Rattle.fn_table.specs.Later.{IsLater}
 use Rattle.fn_climb.specs.Turns.{Polled}
 use Rattle.fn_climb.specs.declared.beginning.Begun.TheVariants.{Waiting, NoRow}
 use Rattle.fn_direct.specs.declared.Lost.{Lost}
-use Rattle.fn_direct.specs.Called.{call_of, HasCalled, HasMadeNone, Tried}
+use Rattle.fn_table.specs.Called.{call_of, HasCalled, HasMadeNone}
+use Rattle.fn_direct.specs.Tries.{Tried}
 use Rattle.fn_funnel.specs.declared.waiting.Added.{Added}
 use Rattle.fn_funnel.specs.declared.waiting.Way.{Way}
 use Rattle.fn_funnel.specs.declared.waiting.Way.TheVariants.{Funnel, Direct}

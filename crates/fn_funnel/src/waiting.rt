@@ -6,10 +6,11 @@ ghost use Rattle.fn_core.specs.Calls.{state_in, IsIdle};
 ghost use Rattle.fn_core.specs.Entries.{IsAlone};
 ghost use Rattle.fn_table.specs.Seen.{IsOf};
 ghost use Rattle.fn_climb.specs.Course.{Holds};
-ghost use Rattle.fn_climb.specs.Steps.{IsLater};
-ghost use Rattle.fn_direct.specs.Called.{call_of, HasCalled, HasMadeNone, Tried};
+ghost use Rattle.fn_table.specs.Later.{IsLater};
+ghost use Rattle.fn_table.specs.Called.{call_of, HasCalled, HasMadeNone};
+ghost use Rattle.fn_direct.specs.Tries.{Tried};
 ghost use Rattle.fn_funnel.specs.Waiting.{Waited, IsAnswered, IsStraight, Exchanges, is_one_step};
-ghost use Rattle.fn_funnel.specs.Words.{Made};
+ghost use Rattle.fn_table.specs.Claims.{Made};
 
 use crate::opening::Funnel;
 use crossbeam_utils::Backoff;

@@ -8,14 +8,16 @@ use Rattle.fn_core.specs.declared.answer.CoreStep.TheVariants.{Ready, NotYet}
 use Rattle.fn_core.specs.Calls.{IsLegal, IsIdle}
 use Rattle.fn_table.specs.Seen.{TableView, PassView, IsOf}
 use Rattle.fn_climb.specs.Begin.{BeginAnswers}
-use Rattle.fn_climb.specs.Steps.{IsLater}
+use Rattle.fn_table.specs.Later.{IsLater}
 use Rattle.fn_climb.specs.Turns.{Polled}
 use Rattle.fn_climb.specs.declared.beginning.Begun.TheVariants.{Waiting, NoRow}
-use Rattle.fn_climb.proofs.Later.{later_on, of_later}
-use Rattle.fn_direct.specs.Called.{call_of}
-use Rattle.fn_funnel.specs.Words.{Made, MadeNone}
-use Rattle.fn_funnel.proofs.Claims.{made_by, made_none}
-use Rattle.fn_funnel.proofs.Funnelled.{polls_more, polls_keep, within_cap, funnelled, batched}
+use Rattle.fn_table.proofs.Later.{later_on, of_later}
+use Rattle.fn_table.specs.Called.{call_of}
+use Rattle.fn_table.specs.Claims.{Made, MadeNone}
+use Rattle.fn_table.proofs.Claims.{made_by, made_none}
+use Rattle.fn_funnel.proofs.Polls.{polls_more, polls_keep}
+use Rattle.fn_table.proofs.Claims.{within_cap}
+use Rattle.fn_climb.proofs.Funnelled.{funnelled, batched}
 use Rattle.fn_funnel.proofs.Straight.{none_since}
 use Rattle.fn_future.specs.Calls.{IsMade, IsFor, HasStarted, Turned, TurnedFrom}
 use Rattle.fn_future.specs.Views.{CallView}

@@ -12,10 +12,10 @@ use Rattle.fn_core.specs.Entries.{IsBatched}
 use Rattle.fn_table.specs.Seen.{TableView, PassView, IsOf, own_of}
 use Rattle.fn_climb.specs.Begin.{BeginAnswers}
 use Rattle.fn_climb.specs.declared.beginning.Begun.TheVariants.{Waiting, NoRow}
-use Rattle.fn_climb.proofs.Later.{later_on, of_later}
+use Rattle.fn_table.proofs.Later.{later_on, of_later}
 use Rattle.fn_direct.proofs.Joined.{called_since}
-use Rattle.fn_funnel.specs.Words.{Made}
-use Rattle.fn_funnel.proofs.Funnelled.{later_none}
+use Rattle.fn_table.specs.Claims.{Made}
+use Rattle.fn_table.proofs.Later.{later_none}
 use Rattle.fn_funnel.proofs.Straight.{none_since, none_more, same_call}
 use Rattle.fn_future.specs.declared.legs.MoveStage.{MoveStage}
 use Rattle.fn_future.specs.declared.legs.MoveStage.TheVariants.{Taking, Between, Adding, Over}

@@ -13,11 +13,11 @@ use Rattle.fn_core.specs.declared.answer.CoreStep.TheVariants.{Ready, NotYet}
 use Rattle.fn_core.specs.Entries.{IsBatched}
 use Rattle.fn_table.specs.Seen.{TableView, PassView, own_of}
 use Rattle.fn_climb.specs.Begin.{BeginAnswers}
-use Rattle.fn_climb.specs.Steps.{IsLater}
+use Rattle.fn_table.specs.Later.{IsLater}
 use Rattle.fn_climb.specs.Turns.{Polled}
 use Rattle.fn_climb.specs.declared.beginning.Begun.TheVariants.{Waiting, NoRow}
-use Rattle.fn_direct.specs.Called.{call_of, HasCalled}
-use Rattle.fn_funnel.specs.Words.{Made}
+use Rattle.fn_table.specs.Called.{call_of, HasCalled}
+use Rattle.fn_table.specs.Claims.{Made}
 use Rattle.fn_future.specs.Views.{CallView}
 
 -- The pass has made exactly this call, which met the reply in a batch, and has then seen more; the reply is no more than the cap

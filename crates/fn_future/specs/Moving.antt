@@ -7,11 +7,11 @@ use Rattle.fn_core.specs.declared.answer.Why.{Why}
 use Rattle.fn_core.specs.Machine.{MaySpend}
 use Rattle.fn_core.specs.Calls.{state_in, IsLegal, IsIdle}
 use Rattle.fn_table.specs.Seen.{TableView, PassView, IsOf}
-use Rattle.fn_climb.specs.Steps.{IsLater}
-use Rattle.fn_direct.specs.Called.{HasMadeNone}
+use Rattle.fn_table.specs.Later.{IsLater}
+use Rattle.fn_table.specs.Called.{HasMadeNone}
 use Rattle.fn_future.specs.declared.legs.MoveStage.{MoveStage}
 use Rattle.fn_future.specs.declared.legs.MoveStage.TheVariants.{Taking, Between, Adding, Over}
-use Rattle.fn_funnel.specs.Words.{Rests, Made}
+use Rattle.fn_table.specs.Claims.{Rests, Made}
 use Rattle.fn_future.specs.Calls.{IsMade}
 use Rattle.fn_future.specs.Moves.{MoveView}
 use Rattle.fn_future.specs.Standing.{IsUnderway}

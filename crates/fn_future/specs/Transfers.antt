@@ -4,7 +4,7 @@
 use Rattle.std.specs.Prelude.{◌≡◌, ℕ, zero, suc, min}
 use Rattle.fn_model.specs.declared.Kind.TheVariants.{Add, Sub}
 use Rattle.fn_table.specs.Seen.{PassView}
-use Rattle.fn_funnel.specs.Words.{Rests, Made}
+use Rattle.fn_table.specs.Claims.{Rests, Made}
 
 -- the pass has added so much, in one call; where that is 0 it is the very pass that was handed in
 abbrev pub AddedTo : PassView → ℕ → PassView → Type 0

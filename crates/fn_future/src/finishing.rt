@@ -1,7 +1,7 @@
 // Futures that are run to their end.
 ghost use Rattle.std.specs.Prelude.{IsSome, IfOk};
 ghost use Rattle.fn_model.specs.declared.Kind.TheVariants.{Add, Sub};
-ghost use Rattle.fn_funnel.specs.Words.{Made};
+ghost use Rattle.fn_table.specs.Claims.{Made};
 ghost use Rattle.fn_future.specs.Calls.{HasMade};
 ghost use Rattle.fn_future.specs.Moves.{HasMoved, IsOpen};
 ghost use Rattle.fn_future.specs.Transfers.{Transferred};

@@ -1,7 +1,7 @@
 // A move from one funnel to another as a future.
 ghost use Rattle.std.specs.Prelude.{◌≡◌, ◌≤◌, IfErr, IfNone, IfOk, IfSome};
 ghost use Rattle.fn_table.specs.Seen.{IsOf};
-ghost use Rattle.fn_funnel.specs.Words.{left, MadeNone, Rests};
+ghost use Rattle.fn_table.specs.Claims.{left, MadeNone, Rests};
 ghost use Rattle.fn_future.specs.Moves.{GivesMove, IsMoveFor, IsOpen, StartsMove, TurnedMove};
 
 use crate::legs::{Leg, MoveStage};

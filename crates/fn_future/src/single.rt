@@ -2,7 +2,7 @@
 ghost use Rattle.std.specs.Prelude.{◌≡◌, ◌≤◌, IfErr, IfOk, IsSome};
 ghost use Rattle.fn_model.specs.declared.Kind.TheVariants.{Add, Sub};
 ghost use Rattle.fn_table.specs.Seen.{IsOf};
-ghost use Rattle.fn_funnel.specs.Words.{left, Made, MadeNone, Rests};
+ghost use Rattle.fn_table.specs.Claims.{left, Made, MadeNone, Rests};
 ghost use Rattle.fn_future.specs.Calls.{Gives, HasMade, IsFor, Starts};
 ghost use Rattle.fn_future.specs.Polls.{AsksAgain, PolledOnce};
 

@@ -3,7 +3,7 @@ ghost use Rattle.std.specs.Prelude.{◌≡◌, IfErr, IfOk, IsSome};
 ghost use Rattle.fn_core.specs.Machine.{IsChange, MaySpend};
 ghost use Rattle.fn_core.specs.Calls.{state_in, IsIdle};
 ghost use Rattle.fn_table.specs.Seen.{IsOf};
-ghost use Rattle.fn_funnel.specs.Words.{Made, MadeNone};
+ghost use Rattle.fn_table.specs.Claims.{Made, MadeNone};
 ghost use Rattle.fn_future.specs.Calls.{Gives, HasMade, IsFor, Starts};
 ghost use Rattle.fn_future.specs.Polls.{AsksAgain, PolledOnce};
 

@@ -14,8 +14,8 @@ use Rattle.fn_core.specs.Laws.{AreNumbered}
 use Rattle.fn_core.proofs.Orders.{histories_go_on}
 use Rattle.fn_core.proofs.Owned.{own_calls_are_in_order}
 use Rattle.fn_table.specs.Seen.{PassView, own_of}
-use Rattle.fn_direct.specs.Called.{call_of}
-use Rattle.fn_funnel.specs.Words.{past, mine, left, next_of, Made}
+use Rattle.fn_table.specs.Called.{call_of}
+use Rattle.fn_table.specs.Claims.{past, mine, left, next_of, Made}
 use Rattle.fn_future.specs.Calls.{IsMade}
 use Rattle.fn_rounds.specs.Lanes.{HasOnlyScanned, AreMade}
 use Rattle.fn_rounds.specs.InOrder.{numbered, MetBehind, MadeInOrder}

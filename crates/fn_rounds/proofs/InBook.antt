@@ -18,7 +18,7 @@ use Rattle.fn_core.specs.Calls.{CoreLog, calls_in, state_in, IsLegal}
 use Rattle.fn_core.proofs.Orders.{calls_are_of_passes}
 use Rattle.fn_table.specs.Seen.{TableView, PassView, fresh}
 use Rattle.fn_table.proofs.Glances.{glances_idle, glances_run}
-use Rattle.fn_funnel.specs.Words.{past, mine, left, Rests}
+use Rattle.fn_table.specs.Claims.{past, mine, left, Rests}
 use Rattle.fn_rounds.specs.InOrder.{call_at, numbered, MetBehind, MadeInOrder}
 
 -- a pass of which no call is has no own calls

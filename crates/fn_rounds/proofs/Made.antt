@@ -8,11 +8,11 @@ use Rattle.fn_core.specs.Calls.{IsLegal, IsIdle}
 use Rattle.fn_core.specs.Entries.{IsBatched}
 use Rattle.fn_table.specs.Seen.{PassView}
 use Rattle.fn_climb.specs.Begin.{BeginAnswers}
-use Rattle.fn_climb.specs.Steps.{IsLater}
+use Rattle.fn_table.specs.Later.{IsLater}
 use Rattle.fn_climb.specs.declared.beginning.Begun.TheVariants.{NoRow}
-use Rattle.fn_climb.proofs.Later.{later_on}
+use Rattle.fn_table.proofs.Later.{later_on}
 use Rattle.fn_direct.proofs.Joined.{called_since}
-use Rattle.fn_funnel.proofs.Funnelled.{later_none}
+use Rattle.fn_table.proofs.Later.{later_none}
 use Rattle.fn_funnel.proofs.Straight.{none_since, none_more, same_call}
 use Rattle.fn_future.specs.Calls.{IsMade}
 use Rattle.fn_rounds.specs.Lanes.{HasOnlyScanned, AreMade}

@@ -9,8 +9,8 @@ use Rattle.fn_core.specs.declared.Start.{Start}
 use Rattle.fn_core.specs.Machine.{IsChange, MaySpend}
 use Rattle.fn_core.specs.Calls.{state_in, IsLegal, IsIdle, left_of}
 use Rattle.fn_table.specs.Seen.{TableView, PassView, IsOf}
-use Rattle.fn_climb.specs.Steps.{IsLater}
-use Rattle.fn_climb.proofs.Later.{of_later}
+use Rattle.fn_table.specs.Later.{IsLater}
+use Rattle.fn_table.proofs.Later.{of_later}
 use Rattle.fn_future.specs.Calls.{IsMade}
 use Rattle.fn_future.proofs.Between.{underway_begun, underway_more, underway_done, underway_of}
 use Rattle.fn_rounds.specs.declared.lanes.Caller.{Caller}

@@ -13,7 +13,7 @@ use Rattle.fn_model.specs.Calls.{place}
 use Rattle.fn_model.specs.Integer.{Meets}
 use Rattle.fn_core.specs.declared.Start.{Start}
 use Rattle.fn_table.specs.Seen.{PassView}
-use Rattle.fn_funnel.specs.Words.{past, mine, left, Rests}
+use Rattle.fn_table.specs.Claims.{past, mine, left, Rests}
 
 -- the call that a pass makes for an order, as its call of number n
 abbrev pub call_at : ℕ → ℕ → Kind × ℕ → Call

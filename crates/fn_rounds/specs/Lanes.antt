@@ -15,11 +15,11 @@ use Rattle.fn_core.specs.Machine.{IsChange, MaySpend}
 use Rattle.fn_core.specs.Calls.{state_in}
 use Rattle.fn_table.specs.Seen.{TableView, PassView, IsOf}
 use Rattle.fn_climb.specs.Begin.{BeginAnswers}
-use Rattle.fn_climb.specs.Steps.{IsLater}
+use Rattle.fn_table.specs.Later.{IsLater}
 use Rattle.fn_climb.specs.Turns.{Polled}
 use Rattle.fn_climb.specs.declared.beginning.Begun.TheVariants.{Waiting, NoRow}
-use Rattle.fn_direct.specs.Called.{HasMadeNone}
-use Rattle.fn_funnel.specs.Words.{left, Rests}
+use Rattle.fn_table.specs.Called.{HasMadeNone}
+use Rattle.fn_table.specs.Claims.{left, Rests}
 use Rattle.fn_future.specs.Calls.{IsMade}
 use Rattle.fn_rounds.specs.InOrder.{asked}
 use Rattle.fn_rounds.specs.Views.{LaneView}

@@ -6,7 +6,7 @@ use Rattle.fn_model.specs.declared.Kind.{Kind}
 use Rattle.fn_core.specs.declared.answer.Why.{Why}
 use Rattle.fn_core.specs.Calls.{IsLegal}
 use Rattle.fn_table.specs.Seen.{PassView}
-use Rattle.fn_funnel.specs.Words.{Rests}
+use Rattle.fn_table.specs.Claims.{Rests}
 use Rattle.fn_future.specs.Standing.{IsUnderway}
 use Rattle.fn_rounds.specs.declared.lanes.Caller.{Caller}
 use Rattle.fn_rounds.specs.declared.lanes.Caller.TheVariants.{Idle, Pending, Gone}

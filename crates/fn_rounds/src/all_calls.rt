@@ -1,7 +1,7 @@
 // All lanes, a round of them at each poll.
 ghost use Rattle.std.specs.Prelude.{◌≡◌, All, IsSome, IsSomeAnd, IfSome, IfOk, option_map};
 ghost use Rattle.fn_table.specs.Seen.{IsOf};
-ghost use Rattle.fn_funnel.specs.Words.{Rests};
+ghost use Rattle.fn_table.specs.Claims.{Rests};
 ghost use Rattle.fn_rounds.specs.Lanes.{MayMakeAll};
 ghost use Rattle.fn_rounds.specs.Rounds.{AreStarted, AreAllInOrder, AreAllMade, HasGiven, Round};
 

@@ -2,7 +2,7 @@
 ghost use Rattle.std.specs.Prelude.{◌≡◌, ◌≤◌, false, length, All, IfOk};
 ghost use Rattle.std.specs.List.{list_any};
 ghost use Rattle.fn_table.specs.Seen.{IsOf};
-ghost use Rattle.fn_funnel.specs.Words.{Rests};
+ghost use Rattle.fn_table.specs.Claims.{Rests};
 ghost use Rattle.fn_rounds.specs.Lanes.{MayMakeAll, has_left};
 ghost use Rattle.fn_rounds.specs.Rounds.{AreStarted, HaveTurned, AreHandedBack, AreAllMade};
 

@@ -1,7 +1,7 @@
 // A lane between the rounds.
 ghost use Rattle.std.specs.Prelude.{◌≡◌, IfOk, false};
 ghost use Rattle.fn_table.specs.Seen.{IsOf};
-ghost use Rattle.fn_funnel.specs.Words.{Rests};
+ghost use Rattle.fn_table.specs.Claims.{Rests};
 ghost use Rattle.fn_rounds.specs.Lanes.{MayMakeAll, LaneTurned, has_left, AreMade, is_new, IsHandedBack};
 
 use crate::lanes::{Caller, Lane, LaneDone, Orders, Replies};

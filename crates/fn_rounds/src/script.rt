@@ -2,7 +2,7 @@
 ghost use Rattle.std.specs.Prelude.{◌≡◌, All, IfOk};
 ghost use Rattle.fn_core.specs.Calls.{calls_in};
 ghost use Rattle.fn_table.specs.Seen.{IsOf, fresh_passes};
-ghost use Rattle.fn_funnel.specs.Words.{Rests};
+ghost use Rattle.fn_table.specs.Claims.{Rests};
 ghost use Rattle.trace_text.specs.Sound.{IsSound};
 ghost use Rattle.fn_rounds.specs.Lanes.{MayMakeAll};
 ghost use Rattle.fn_rounds.specs.Script.{IsBookOf, IsChangeOrder, TellsRounds};

@@ -2,7 +2,7 @@ ghost use Rattle.std.specs.Prelude.{◌≡◌, [], ◌∷◌, IfSome, IsSome, Is
 ghost use Rattle.fn_core.specs.Machine.{IsChange};
 ghost use Rattle.fn_table.specs.Seen.{IsOf, AreOpened};
 ghost use Rattle.fn_table.specs.Standing.{IsNumbered};
-ghost use Rattle.fn_funnel.specs.Words.{Rests};
+ghost use Rattle.fn_table.specs.Claims.{Rests};
 ghost use Rattle.fn_rounds.specs.Lanes.{MayMakeAll};
 ghost use Rattle.fn_rounds.specs.Rounds.{AreStarted, AreAllInOrder};
 

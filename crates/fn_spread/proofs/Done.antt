@@ -11,7 +11,7 @@ use Rattle.fn_core.specs.State.{State, history_in}
 use Rattle.fn_core.specs.State as first
 use Rattle.fn_table.specs.Seen.{TableView, PassView, IsOf, IsWhole, AreAll, fresh}
 use Rattle.fn_table.proofs.Glances.{glances_run}
-use Rattle.fn_funnel.specs.Words.{past, Rests}
+use Rattle.fn_table.specs.Claims.{past, Rests}
 use Rattle.fn_spread.specs.declared.memory.NoMemory.{NoMemory}
 use Rattle.fn_spread.specs.declared.parts.Part.{Part}
 use Rattle.fn_spread.specs.declared.parts.Worked.{Worked}

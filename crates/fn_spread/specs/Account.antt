@@ -8,7 +8,7 @@ use Rattle.fn_core.specs.declared.Start.{Start}
 use Rattle.fn_core.specs.Calls.{CoreLog, calls_in, IsLegal}
 use Rattle.fn_table.specs.Seen.{PassView, IsClosed}
 use Rattle.fn_layout.specs.Workers.{IsShapeFor}
-use Rattle.fn_funnel.specs.Words.{Rests}
+use Rattle.fn_table.specs.Claims.{Rests}
 use Rattle.fn_spread.specs.Ranges.{ranges_of}
 use Rattle.fn_spread.specs.Draws.{AreDraws}
 

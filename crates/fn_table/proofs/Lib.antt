@@ -14,3 +14,5 @@ pub mod Keeping
 pub mod Published
 pub mod Stages
 pub mod OwnCalls
+pub mod Later
+pub mod Claims

@@ -18,6 +18,7 @@ mod words;
 
 ghost use Rattle.running.specs.Machine.{Laws};
 ghost use Rattle.fn_table.specs.Seen.{GlancesLeaveStates, GlancesLeaveIdle, GlancesAreLegal};
+ghost use Rattle.fn_table.specs.Later.{StepsAreLater, LaterPassesGoOn, LaterPassesStayAtTheirTable};
 ghost use Rattle.fn_table.specs.Funnel.{funnel, LogsAreLegal, GuardsAreOwn, AdditionsFit, StepsAreTold};
 
 pub use book::Book;
@@ -25,6 +26,8 @@ pub use climbing::{
     announce, arrive, close_batch, fill, head, leave, look, peek, point, publish, scan, see,
 };
 pub use main_word::{apply_batch, direct, exchange, load_read, load_try};
+pub use fn_core::OpenFault;
+pub use fn_layout::{Field, Kind, Shape};
 pub use meeting::{meet, note};
 pub use pass::{Note, Pass};
 pub use table::FunnelTable;
@@ -43,6 +46,13 @@ pub fn glances_change_nothing()
     ensures states { GlancesLeaveStates }
     ensures idle { GlancesLeaveIdle }
     ensures legal { GlancesAreLegal }
+{}
+
+/// What a pass has seen only grows: after a step of its own it has seen more; and again after more of them; and it stays a pass of its table.
+pub fn later_passes()
+    ensures steps { StepsAreLater }
+    ensures go_on { LaterPassesGoOn }
+    ensures table { LaterPassesStayAtTheirTable }
 {}
 
 #[cfg(test)]

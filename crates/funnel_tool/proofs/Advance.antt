@@ -10,9 +10,10 @@ use Rattle.fn_core.specs.declared.answer.CoreStep.TheVariants.{Going, Ready, Not
 use Rattle.fn_core.specs.State.{Caller as Standing}
 use Rattle.fn_core.specs.Calls.{Follows, IsIdle, left_of}
 use Rattle.fn_table.specs.Seen.{TableView, PassView, IsOf, Stored}
-use Rattle.fn_climb.specs.Steps.{IsLater}
-use Rattle.fn_climb.proofs.Later.{later_by}
-use Rattle.fn_direct.specs.Called.{HasMadeNone, Tried}
+use Rattle.fn_table.specs.Later.{IsLater}
+use Rattle.fn_table.proofs.Later.{later_by}
+use Rattle.fn_table.specs.Called.{HasMadeNone}
+use Rattle.fn_direct.specs.Tries.{Tried}
 use Rattle.trace_text.specs.Order.{amount}
 use Rattle.trace_text.specs.Sound.{allowance}
 use Rattle.trace_text.specs.declared.scripts.Order.{Order}

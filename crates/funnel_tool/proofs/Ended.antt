@@ -18,8 +18,8 @@ use Rattle.fn_core.specs.Laws.{IsUnderway}
 use Rattle.fn_core.specs.Calls.{CoreLog, HasCall, IsIdle, IsLegal, calls_in, state_in}
 use Rattle.fn_table.specs.Seen.{TableView, PassView, AreAll, IsClosed, IsOf, fresh}
 use Rattle.fn_table.proofs.Glances.{glances_idle, glances_legal, glances_run}
-use Rattle.fn_climb.specs.Steps.{IsLater}
-use Rattle.fn_direct.specs.Called.{HasMadeNone}
+use Rattle.fn_table.specs.Later.{IsLater}
+use Rattle.fn_table.specs.Called.{HasMadeNone}
 use Rattle.replay_run.proofs.Outside.{none_outside}
 use Rattle.trace_text.specs.Sound.{HasPasses, IsSound}
 use Rattle.trace_text.specs.Order.{amount}

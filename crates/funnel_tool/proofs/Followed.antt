@@ -13,11 +13,12 @@ use Rattle.fn_core.specs.Calls.{CoreLog, Follows, HasCall, IsIdle, IsLegal, call
 use Rattle.fn_core.proofs.Orders.{resting_passes_have_no_call}
 use Rattle.fn_table.specs.Seen.{PassView, own_of}
 use Rattle.fn_climb.specs.Begin.{HasBegun}
-use Rattle.fn_climb.specs.Steps.{HasSameCall, IsLater, Went}
+use Rattle.fn_climb.specs.Steps.{HasSameCall, Went}
+use Rattle.fn_table.specs.Later.{IsLater}
 use Rattle.fn_climb.specs.Turns.{GoesOn, Polled}
 use Rattle.fn_core.specs.declared.Move.{Move}
-use Rattle.fn_climb.proofs.Later.{later_by}
-use Rattle.fn_direct.specs.Called.{HasCalled, HasMadeNone, call_of}
+use Rattle.fn_table.proofs.Later.{later_by}
+use Rattle.fn_table.specs.Called.{HasCalled, HasMadeNone, call_of}
 use Rattle.trace_text.specs.declared.scripts.Order.{Order}
 use Rattle.trace_text.specs.declared.scripts.Order.TheVariants as order
 use Rattle.trace_text.specs.declared.scripts.ScriptLine.{ScriptLine}

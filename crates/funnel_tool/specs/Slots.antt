@@ -11,7 +11,7 @@ use Rattle.fn_model.specs.declared.Kind.TheVariants.{Add}
 use Rattle.fn_core.specs.Calls.{IsIdle, left_of}
 use Rattle.fn_core.specs.declared.Move.TheVariants.{Glance}
 use Rattle.fn_table.specs.Seen.{TableView, PassView, NoteView, IsOf, Met, Stored, note_of}
-use Rattle.fn_direct.specs.Called.{HasMadeNone}
+use Rattle.fn_table.specs.Called.{HasMadeNone}
 use Rattle.trace_text.specs.Sound.{allowance}
 use Rattle.trace_text.specs.declared.scripts.Order.{Order}
 use Rattle.trace_text.specs.declared.scripts.Order.TheVariants as order

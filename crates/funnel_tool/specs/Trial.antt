@@ -22,7 +22,8 @@ use Rattle.fn_climb.specs.Begin.{BeginAnswers}
 use Rattle.fn_climb.specs.Steps.{Went}
 use Rattle.fn_climb.specs.Turns.{Polled}
 use Rattle.fn_climb.specs.declared.beginning.Begun.TheVariants as begun
-use Rattle.fn_direct.specs.Called.{HasCalled, HasMadeNone, Tried}
+use Rattle.fn_table.specs.Called.{HasCalled, HasMadeNone}
+use Rattle.fn_direct.specs.Tries.{Tried}
 use Rattle.trace_text.specs.declared.scripts.Order.{Order}
 use Rattle.trace_text.specs.declared.scripts.Order.TheVariants as order
 use Rattle.trace_text.specs.declared.scripts.Script.{Script}

@@ -17,7 +17,7 @@ use Rattle.fn_core.specs.Calls.{calls_in}
 use Rattle.fn_core.proofs.Orders.{histories_go_on, calls_are_of_passes}
 use Rattle.fn_table.specs.Seen.{PassView, event}
 use Rattle.fn_table.specs.Seen as tokens
-use Rattle.fn_funnel.specs.Words.{Rests}
+use Rattle.fn_table.specs.Claims.{Rests}
 use Rattle.tick_table.specs.declared.entry.Entry.{Entry}
 use Rattle.tick_table.specs.declared.entry.Start as tick
 use Rattle.tick_table.specs.Seen.{SeatView, TickLog}

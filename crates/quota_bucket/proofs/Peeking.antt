@@ -6,12 +6,12 @@ use Rattle.fn_core.specs.declared.Move.TheVariants.{Load}
 use Rattle.fn_core.specs.declared.Purpose.TheVariants as purpose
 use Rattle.fn_core.specs.Calls.{IsLegal}
 use Rattle.fn_table.specs.Seen.{PassView, Stepped}
-use Rattle.fn_climb.specs.Steps.{IsLater}
-use Rattle.fn_climb.proofs.Later.{later_by}
-use Rattle.fn_direct.specs.Called.{call_of, HasCalled}
-use Rattle.fn_funnel.specs.Words.{Rests, Made}
-use Rattle.fn_funnel.proofs.Funnelled.{within_cap}
-use Rattle.fn_funnel.proofs.Claims.{made_by}
+use Rattle.fn_table.specs.Later.{IsLater}
+use Rattle.fn_table.proofs.Later.{later_by}
+use Rattle.fn_table.specs.Called.{call_of, HasCalled}
+use Rattle.fn_table.specs.Claims.{Rests, Made}
+use Rattle.fn_table.proofs.Claims.{within_cap}
+use Rattle.fn_table.proofs.Claims.{made_by}
 use Rattle.tick_table.specs.Seen.{SeatView}
 use Rattle.quota_bucket.specs.Seen.{BucketView, DeskView, Belongs}
 use Rattle.quota_bucket.specs.Taking.{Peeks}

@@ -5,7 +5,7 @@ use mathlib.Core.List.{IsPrefix}
 use Rattle.fn_model.specs.declared.Call.{Call}
 use Rattle.fn_model.specs.Integer.{Meets}
 use Rattle.fn_model.proofs.Calls.{reply_stays}
-use Rattle.fn_funnel.specs.Words.{past}
+use Rattle.fn_table.specs.Claims.{past}
 use Rattle.quota_bucket.specs.Seen.{burst}
 use Rattle.quota_bucket.specs.Taking.{taking}
 use Rattle.quota_bucket.specs.Closed.{TakesStand}

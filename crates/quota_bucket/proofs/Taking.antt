@@ -11,7 +11,7 @@ use Rattle.fn_core.specs.declared.Start.{Start}
 use Rattle.fn_table.specs.Seen.{PassView}
 use Rattle.fn_funnel.specs.declared.waiting.Added.{Added}
 use Rattle.fn_funnel.specs.Waiting.{Waited}
-use Rattle.fn_funnel.specs.Words.{past, mine, left, Rests, next_of, Made}
+use Rattle.fn_table.specs.Claims.{past, mine, left, Rests, next_of, Made}
 use Rattle.tick_table.specs.declared.entry.Entry.{Entry}
 use Rattle.tick_table.specs.Seen.{TicksView, SeatView, IsOf, Claimed, entries_of, entry}
 use Rattle.tick_table.proofs.Claims.{between_length}

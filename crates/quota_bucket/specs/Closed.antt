@@ -11,7 +11,7 @@ use Rattle.fn_model.specs.Calls.{own}
 use Rattle.fn_model.specs.Integer.{Meets}
 use Rattle.fn_core.specs.Calls.{CoreLog, calls_in}
 use Rattle.fn_table.specs.Seen as tokens
-use Rattle.fn_funnel.specs.Words.{past, mine}
+use Rattle.fn_table.specs.Claims.{past, mine}
 use Rattle.tick_table.specs.declared.entry.Entry.{Entry}
 use Rattle.tick_table.specs.Seen.{TickLog, entries_of}
 use Rattle.tick_table.specs.Seen as ticks

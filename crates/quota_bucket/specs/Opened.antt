@@ -7,7 +7,7 @@ use Rattle.running.specs.Running.{upto}
 use Rattle.fn_table.specs.Seen.{IsWhole}
 use Rattle.fn_table.specs.Seen as tokens
 use Rattle.fn_layout.specs.Workers.{IsShapeFor}
-use Rattle.fn_funnel.specs.Words.{past}
+use Rattle.fn_table.specs.Claims.{past}
 use Rattle.tick_table.specs.Seen as ticks
 use Rattle.quota_bucket.specs.Seen.{BucketView, DeskView, Belongs, burst}
 

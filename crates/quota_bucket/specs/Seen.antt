@@ -7,7 +7,7 @@ use Rattle.std.specs.Prelude.{◌≡◌, ℕ, List, map}
 use Rattle.running.specs.Running.{upto}
 use Rattle.fn_table.specs.Seen.{TableView, PassView}
 use Rattle.fn_table.specs.Seen as tokens
-use Rattle.fn_funnel.specs.Words.{Rests}
+use Rattle.fn_table.specs.Claims.{Rests}
 use Rattle.tick_table.specs.Seen.{TicksView, SeatView}
 use Rattle.tick_table.specs.Seen as ticks
 

@@ -16,7 +16,7 @@ use Rattle.fn_table.specs.Seen.{PassView, Stepped}
 use Rattle.fn_funnel.specs.declared.waiting.Added.{Added}
 use Rattle.fn_funnel.specs.declared.waiting.Way.{Way}
 use Rattle.fn_funnel.specs.Waiting.{Waited}
-use Rattle.fn_funnel.specs.Words.{past, mine, left, next_of, Made}
+use Rattle.fn_table.specs.Claims.{past, mine, left, next_of, Made}
 use Rattle.tick_table.specs.Claims.{between}
 use Rattle.tick_table.specs.Seen.{Claimed, entries_of, entry}
 use Rattle.quota_bucket.specs.declared.desks.Taken.{Taken}

@@ -1,6 +1,6 @@
 //! A bucket.
 ghost use Rattle.std.specs.Prelude.{◌≡◌, ◌≤◌};
-ghost use Rattle.fn_funnel.specs.Words.{Rests, left};
+ghost use Rattle.fn_table.specs.Claims.{Rests, left};
 ghost use Rattle.fn_table.specs.Seen.{IsOf};
 ghost use Rattle.quota_bucket.specs.Seen.{burst};
 ghost use Rattle.quota_bucket.specs.Taking.{Refills, RefillsBy};

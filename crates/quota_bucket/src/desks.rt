@@ -1,6 +1,6 @@
 //! The desks of a bucket.
 ghost use Rattle.std.specs.Prelude.{◌≡◌, ◌≤◌, ◌+◌};
-ghost use Rattle.fn_funnel.specs.Words.{left};
+ghost use Rattle.fn_table.specs.Claims.{left};
 ghost use Rattle.quota_bucket.specs.Seen.{Belongs, burst};
 ghost use Rattle.quota_bucket.specs.Taking.{Takes, TakesBy, Peeks, PeeksBy};
 

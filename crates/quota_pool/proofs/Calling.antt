@@ -14,9 +14,9 @@ use Rattle.fn_model.proofs.Lists.{slice_get-set_same, slice_get-set_other}
 use Rattle.fn_core.specs.declared.Move.TheVariants.{Load}
 use Rattle.fn_core.specs.declared.Purpose.TheVariants as purpose
 use Rattle.fn_table.specs.Seen.{TableView, PassView, IsOf, Stepped}
-use Rattle.fn_climb.specs.Steps.{IsLater}
-use Rattle.fn_climb.proofs.Later.{later_by}
-use Rattle.fn_direct.specs.Called.{call_of, HasCalled}
+use Rattle.fn_table.specs.Later.{IsLater}
+use Rattle.fn_table.proofs.Later.{later_by}
+use Rattle.fn_table.specs.Called.{call_of, HasCalled}
 use Rattle.fn_funnel.specs.declared.waiting.Added.{Added}
 use Rattle.fn_funnel.specs.Waiting.{Waited, IsStraight, is_one_step}
 use Rattle.quota_pool.specs.declared.moved.Moved.{Moved}

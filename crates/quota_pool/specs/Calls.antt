@@ -14,8 +14,8 @@ use Rattle.fn_core.specs.declared.Purpose.TheVariants as purpose
 use Rattle.fn_core.specs.Calls.{CoreLog}
 use Rattle.fn_core.specs.Entries.{IsAlone}
 use Rattle.fn_table.specs.Seen.{PassView, Stepped}
-use Rattle.fn_climb.specs.Steps.{IsLater}
-use Rattle.fn_direct.specs.Called.{call_of, HasCalled}
+use Rattle.fn_table.specs.Later.{IsLater}
+use Rattle.fn_table.specs.Called.{call_of, HasCalled}
 use Rattle.fn_funnel.specs.declared.waiting.Way.{Way}
 use Rattle.fn_funnel.specs.Waiting.{GoesBy, IsStraight, is_one_step, HasEntered}
 use Rattle.quota_pool.specs.declared.moved.Moved.{Moved}

@@ -12,8 +12,8 @@ use Rattle.fn_core.specs.Calls.{calls_in, IsLegal}
 use Rattle.fn_model.proofs.Lists.{slice_get-set_same}
 use Rattle.fn_core.proofs.Owned.{own_calls_are_in_order}
 use Rattle.fn_table.specs.Seen.{PassView}
-use Rattle.fn_climb.proofs.Later.{prefix_on}
-use Rattle.fn_direct.specs.Called.{call_of as next_call}
+use Rattle.running.proofs.Logs.{prefix_on}
+use Rattle.fn_table.specs.Called.{call_of as next_call}
 use Rattle.running.proofs.Logs.{prefix_refl}
 use Rattle.quota_pool.specs.Views.{PoolView, DeskView}
 use Rattle.quota_pool.specs.Calls.{Called as PassCalled, EntersBy}

@@ -26,7 +26,7 @@ use Rattle.fn_funnel.specs.declared.waiting.Way.{Way}
 use Rattle.fn_funnel.proofs.Calls.{entered_stays}
 use Rattle.fn_core.proofs.Entered.{entries_stay}
 use Rattle.quota_pool.specs.Calls.{EntersBy}
-use Rattle.fn_climb.proofs.Later.{prefix_on}
+use Rattle.running.proofs.Logs.{prefix_on}
 use Rattle.quota_pool.specs.Views.{PoolView, DeskView, Belongs, left_at, left_in}
 use Rattle.quota_pool.specs.Opened.{fresh_desk, OpensWith, IsNew}
 use Rattle.quota_pool.specs.Closed.{passes_at, ClosesWith, AreClosed}

@@ -7,7 +7,7 @@ use Rattle.std.specs.Option.{option_map}
 use Rattle.running.specs.Running.{numbers_from, upto}
 use Rattle.fn_model.specs.declared.Call.{Call}
 use Rattle.fn_model.specs.Calls.{own}
-use Rattle.fn_funnel.specs.Words.{mine}
+use Rattle.fn_table.specs.Claims.{mine}
 use Rattle.tick_table.specs.declared.entry.Entry.{Entry}
 use Rattle.tick_table.specs.declared.entry.Start.{Start}
 use Rattle.tick_table.specs.Seen.{entries_of, entry}

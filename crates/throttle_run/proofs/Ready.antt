@@ -5,7 +5,7 @@ use Rattle.std.proofs.lemmas.List.Elements.{All-filter}
 use Rattle.std.specs.List.{All, sum_by}
 use Rattle.running.specs.Running.{numbers_from}
 use Rattle.fn_core.specs.declared.Start.{Start}
-use Rattle.fn_funnel.specs.Words.{left}
+use Rattle.fn_table.specs.Claims.{left}
 use Rattle.quota_bucket.specs.Seen.{BucketView, DeskView, burst}
 use Rattle.quota_bucket.specs.Opened.{OpensWith, fresh_desk, fresh_desks, IsNew}
 use Rattle.tick_table.specs.declared.entry.Start.{Start as Ticks}

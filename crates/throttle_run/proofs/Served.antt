@@ -8,7 +8,7 @@ use mathlib.Core.List.{IsPrefix}
 use Rattle.fn_model.specs.declared.Call.{Call}
 use Rattle.fn_model.specs.Integer.{Meets}
 use Rattle.fn_table.specs.Seen.{PassView}
-use Rattle.fn_funnel.specs.Words.{past, mine, left}
+use Rattle.fn_table.specs.Claims.{past, mine, left}
 use Rattle.tick_table.specs.declared.entry.Entry.{Entry}
 use Rattle.tick_table.specs.declared.entry.Start.{Start}
 use Rattle.tick_table.specs.Claims.{reach}

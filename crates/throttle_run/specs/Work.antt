@@ -8,7 +8,7 @@
 --     IsSetting setting, OpensFull setting bucket      what is asked of a setting, and a bucket that opened as it says
 use Rattle.std.specs.Prelude.{◌≡◌, ℕ, ◌<◌, ◌≤◌, List, [], ◌∷◌, length, map, sum_by, All, slice_index_or}
 use Rattle.fn_model.specs.declared.TheConstants.{NO_CAP}
-use Rattle.fn_funnel.specs.Words.{left}
+use Rattle.fn_table.specs.Claims.{left}
 use Rattle.fn_layout.specs.Workers.{IsShapeFor}
 use Rattle.quota_bucket.specs.declared.desks.Taken.{Taken}
 use Rattle.quota_bucket.specs.Seen.{BucketView, DeskView, Belongs, burst}

@@ -10,7 +10,7 @@ use Rattle.fn_model.specs.declared.Kind.TheVariants.{Add, Sub}
 use Rattle.fn_core.specs.declared.Start.{Start}
 use Rattle.fn_core.specs.Calls.{IsIdle}
 use Rattle.fn_table.specs.Seen.{PassView}
-use Rattle.fn_direct.specs.Called.{call_of}
+use Rattle.fn_table.specs.Called.{call_of}
 use Rattle.tq_cells.specs.declared.entry.Start as cell
 use Rattle.tq_queue.specs.Answers.{Answered, raised, lowered, raised_by, lowered_by, AddsOne, AreTickets}
 use Rattle.tq_queue.specs.Seen.{CallerView, AllBegin, Begins, allowance}

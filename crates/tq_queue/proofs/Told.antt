@@ -14,7 +14,7 @@ use Rattle.fn_core.specs.declared.Event.{Event}
 use Rattle.fn_core.specs.Calls.{CoreLog, calls_in, IsLegal}
 use Rattle.fn_core.proofs.Orders.{histories_go_on}
 use Rattle.fn_table.specs.Seen.{PassView}
-use Rattle.fn_direct.specs.Called.{call_of}
+use Rattle.fn_table.specs.Called.{call_of}
 use Rattle.fn_funnel.specs.declared.waiting.Added.{Added}
 use Rattle.fn_funnel.specs.Waiting.{Waited}
 use Rattle.tq_cells.specs.declared.entry.Entry.{Entry}

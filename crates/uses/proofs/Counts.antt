@@ -4,10 +4,10 @@ use Rattle.std.proofs.lemmas.List.Sums.{sum_by-cons, sum_by-append}
 use Rattle.fn_model.specs.declared.Kind.{Kind}
 use Rattle.fn_model.specs.declared.Kind.TheVariants.{Add, Sub}
 use Rattle.fn_table.specs.Seen.{TableView, PassView, IsOf}
-use Rattle.fn_direct.specs.Called.{call_of}
+use Rattle.fn_table.specs.Called.{call_of}
 use Rattle.fn_funnel.specs.declared.waiting.Added.{Added}
 use Rattle.fn_funnel.specs.Waiting.{Waited}
-use Rattle.fn_funnel.specs.Words.{Made}
+use Rattle.fn_table.specs.Claims.{Made}
 use Rattle.tq_queue.specs.Answers.{Answered, raised, lowered, raised_by, lowered_by}
 use Rattle.tq_queue.specs.Kept.{own_answers}
 use Rattle.tq_queue.proofs.Told.{answers_grow}

@@ -5,7 +5,7 @@ use Rattle.std.proofs.lemmas.Bool.Decides.{nat_tests}
 use mathlib.Core.List.{IsPrefix}
 use Rattle.running.specs.Running.{upto}
 use Rattle.fn_model.specs.declared.Kind.TheVariants.{Add}
-use Rattle.fn_direct.specs.Called.{call_of}
+use Rattle.fn_table.specs.Called.{call_of}
 use Rattle.fn_table.specs.Seen.{PassView}
 use Rattle.tq_cells.specs.declared.entry.Entry.TheVariants as entries
 use Rattle.tq_cells.specs.declared.entry.Event.{Event}

@@ -5,7 +5,7 @@
 use Rattle.std.specs.Prelude.{◌≡◌, ◌<◌, ℕ, List, [], All, get_or}
 use Rattle.fn_core.specs.Calls.{CoreLog, calls_in, IsLegal}
 use Rattle.fn_table.specs.Seen.{TableView, PassView, IsOf}
-use Rattle.fn_funnel.specs.Words.{left, Rests}
+use Rattle.fn_table.specs.Claims.{left, Rests}
 use Rattle.tq_queue.specs.Answers.{Answered, answered, answers_of}
 use Rattle.tq_queue.specs.Kept.{own_answers}
 

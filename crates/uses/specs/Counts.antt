@@ -9,7 +9,7 @@ use Rattle.fn_model.specs.declared.Call.{Call}
 use Rattle.fn_model.specs.declared.Kind.{Kind}
 use Rattle.fn_model.specs.declared.Kind.TheVariants.{Add, Sub, Read}
 use Rattle.fn_table.specs.Seen.{TableView, PassView, IsOf}
-use Rattle.fn_funnel.specs.Words.{Rests}
+use Rattle.fn_table.specs.Claims.{Rests}
 use Rattle.tq_queue.specs.Answers.{Answered, raised, lowered}
 use Rattle.tq_queue.specs.Kept.{own_answers}
 

@@ -3,7 +3,7 @@ ghost use Rattle.std.specs.Prelude.{◌≡◌, ◌≤◌, IfSome, IsSome, nat_lt
 ghost use Rattle.fn_model.specs.declared.Kind.TheVariants.{Add};
 ghost use Rattle.fn_table.specs.Seen.{AreOpened, IsOf};
 ghost use Rattle.fn_table.specs.Standing.{IsNumbered};
-ghost use Rattle.fn_funnel.specs.Words.{left, Made, Rests};
+ghost use Rattle.fn_table.specs.Claims.{left, Made, Rests};
 
 use super::super::*;
 use fn_layout::Shape;

@@ -1,7 +1,7 @@
 use Rattle.fn_model.specs.declared.Kind.TheVariants.{Read}
 use Rattle.fn_core.specs.declared.Move.TheVariants.{Load}
 use Rattle.fn_core.specs.declared.Purpose.TheVariants as purpose
-use Rattle.fn_climb.proofs.Later.{later_by}
+use Rattle.fn_table.proofs.Later.{later_by}
 use Rattle.fn_callers.proofs.Once.{made_once}
 use Rattle.fn_callers.proofs.direct.load.Goals as goal
 

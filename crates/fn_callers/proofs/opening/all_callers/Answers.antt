@@ -1,7 +1,7 @@
 use Rattle.std.proofs.Common.{ap, ◌∙◌}
 use Rattle.std.specs.Arc.{arc_value}
 use Rattle.fn_table.specs.Seen.{IsOf, TableView}
-use Rattle.fn_callers.specs.Words.{Rests}
+use Rattle.fn_table.specs.Claims.{Rests}
 use Rattle.fn_callers.specs.Callers.{at_rest}
 use Rattle.fn_callers.proofs.Listed.{all_tail, one_more}
 use Rattle.fn_callers.proofs.opening.all_callers.Goals as goal

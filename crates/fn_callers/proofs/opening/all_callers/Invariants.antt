@@ -1,7 +1,7 @@
 use Rattle.std.proofs.Common.{◌≡◌, ◌++◌, All, map}
 use Rattle.std.specs.Arc.{arc_value}
 use Rattle.fn_table.specs.Seen.{IsOf}
-use Rattle.fn_callers.specs.Words.{Rests}
+use Rattle.fn_table.specs.Claims.{Rests}
 use Rattle.fn_callers.specs.Callers.{at_rest}
 use Rattle.fn_callers.proofs.opening.all_callers.Given as goal
 

@@ -1,4 +1,4 @@
-use Rattle.fn_climb.proofs.Later.{of_later}
+use Rattle.fn_table.proofs.Later.{of_later}
 use Rattle.fn_climb.proofs.tests.goes.Goals as goal
 
 pub returns-in-Going : goal.returns-in-Going

@@ -1,6 +1,6 @@
 use Rattle.std.proofs.Common.{◌++◌, ◌∷◌, []}
-use Rattle.fn_climb.proofs.Later.{of_later}
-use Rattle.fn_funnel.proofs.Funnelled.{polls_more}
+use Rattle.fn_table.proofs.Later.{of_later}
+use Rattle.fn_funnel.proofs.Polls.{polls_more}
 use Rattle.fn_funnel.proofs.waiting.await_reply.Goals as goal
 
 pub returns-in-Ready : goal.returns-in-Ready

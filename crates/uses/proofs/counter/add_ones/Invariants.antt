@@ -1,6 +1,6 @@
 use Rattle.std.proofs.Common.{◌≡◌, ◌+◌}
 use Rattle.fn_table.specs.Seen.{IsOf}
-use Rattle.fn_funnel.specs.Words.{left, Rests}
+use Rattle.fn_table.specs.Claims.{left, Rests}
 use Rattle.uses.specs.Counts.{HasAdded}
 use Rattle.uses.proofs.counter.add_ones.Given as goal
 

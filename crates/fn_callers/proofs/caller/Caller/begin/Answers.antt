@@ -1,6 +1,6 @@
 use Rattle.std.proofs.Common.{◌≡◌, ◌≤◌, ℕ, Ok, refl, sym, ◌∙◌, subst}
 use Rattle.std.specs.Arc.{arc_value}
-use Rattle.fn_callers.specs.Words.{left}
+use Rattle.fn_table.specs.Claims.{left}
 use Rattle.fn_callers.specs.Callers.{CallerView, at_rest}
 use Rattle.fn_callers.specs.declared.caller.Standing.TheVariants.{Idle, Waits}
 use Rattle.fn_callers.specs.Told.{BeginTold}

@@ -3,7 +3,7 @@ use Rattle.std.specs.Arc.{arc_value}
 use Rattle.fn_core.specs.Machine.{no_cap}
 use Rattle.fn_table.specs.Seen.{TableView}
 use Rattle.fn_callers.specs.declared.caller.Reason.{Reason}
-use Rattle.fn_callers.specs.Words.{left}
+use Rattle.fn_table.specs.Claims.{left}
 use Rattle.fn_callers.specs.Callers.{CallerView, at_rest}
 use Rattle.fn_callers.specs.declared.caller.Standing.TheVariants.{Idle}
 use Rattle.fn_callers.specs.Told.{ChangeTold}

@@ -1,5 +1,5 @@
 use Rattle.std.proofs.Common.{◌≡◌, ◌++◌, ◌∷◌, [], List, subst, sym, ap, length, length-append, arith}
-use Rattle.fn_funnel.specs.Words.{Rests}
+use Rattle.fn_table.specs.Claims.{Rests}
 use Rattle.fn_rounds.specs.Views.{LaneView}
 use Rattle.fn_rounds.specs.declared.lanes.Lane.{Lane}
 use Rattle.fn_rounds.specs.Lanes.{MayMakeAll, is_new}

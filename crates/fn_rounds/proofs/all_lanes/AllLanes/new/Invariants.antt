@@ -1,6 +1,6 @@
 use Rattle.std.proofs.Common.{All, ◌+◌, ◌≤◌, length}
 use Rattle.std.specs.Vec.{vec_capacity}
-use Rattle.fn_funnel.specs.Words.{Rests}
+use Rattle.fn_table.specs.Claims.{Rests}
 use Rattle.fn_rounds.specs.Lanes.{MayMakeAll}
 use Rattle.fn_rounds.specs.Rounds.{AreStarted}
 use Rattle.fn_rounds.proofs.all_lanes.AllLanes.new.Given as goal

@@ -1,18 +1,15 @@
--- What a call tells that a pass makes by itself, on the main word.
+-- That a pass has made a call, as its log tells it.
 --     call_of pass kind amount      the call that the pass makes next
 --     HasCalled pass kind amount reply after      the pass has made it, and it met the reply
 --     HasMadeNone pass after      the pass has made no call
---     Tried pass kind amount loaded found after      the pass loaded the main word, and then tried to exchange it
 use Rattle.std.specs.Prelude.{◌≡◌, ℕ, ◌+◌, ◌≤◌, [], ◌∷◌, ◌++◌, length, sum, Some}
 use Rattle.fn_model.specs.declared.Call.{Call}
 use Rattle.fn_model.specs.declared.Kind.{Kind}
 use Rattle.fn_model.specs.Calls.{own, place}
-use Rattle.fn_core.specs.declared.Move.TheVariants.{Load, Exchange}
-use Rattle.fn_core.specs.declared.Purpose.TheVariants as purpose
 use Rattle.fn_core.specs.State.{next_call}
 use Rattle.fn_core.specs.Laws.{HasReply}
 use Rattle.fn_core.specs.Calls.{state_in, calls_in, IsIdle, left_of}
-use Rattle.fn_table.specs.Seen.{PassView, Stepped, own_of}
+use Rattle.fn_table.specs.Seen.{PassView, own_of}
 
 -- the call that the pass makes next
 abbrev pub call_of : PassView → Kind → ℕ → Call
@@ -33,9 +30,3 @@ pub record HasMadeNone (p q : PassView) : Type 0 where
   pub made : (own_of q).caller.made ≡ (own_of p).caller.made
   pub left : left_of q.seen p.number ≡ left_of p.seen p.number
   pub idle : IsIdle q.seen p.number
-
--- The pass took two steps: it loaded this number of the main word, and its exchange found that one
-pub record Tried (p : PassView) (kind : Kind) (amount loaded found : ℕ) (q : PassView) : Type 0 where
-  pub between : PassView
-  pub load : Stepped p (Load purpose.Try) loaded between
-  pub exchange : Stepped between (Exchange kind amount) found q

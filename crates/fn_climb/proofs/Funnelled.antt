@@ -1,35 +1,23 @@
 -- A call through the funnel, from before its beginning up to its reply.
-use Rattle.std.proofs.Common.{◌≡◌, ℕ, suc, ◌+◌, ◌≤◌, length, sum, [], ◌∷◌, ◌++◌, take, Some, sym, ◌∙◌, ap, subst, arith}
-use Rattle.std.proofs.lemmas.Bool.{false≢true}
+use Rattle.std.proofs.Common.{◌≡◌, ℕ, suc, ◌+◌, ◌≤◌, length, sum, [], ◌∷◌, ◌++◌, Some, sym, ◌∙◌, ap, subst, arith}
+use Rattle.std.specs.List.{Contains}
 use Rattle.fn_model.specs.declared.Call.{Call}
 use Rattle.fn_model.specs.declared.Kind.{Kind}
 use Rattle.fn_model.specs.Calls.{own, place}
-use Rattle.fn_model.proofs.Integer.{value_within_cap}
 use Rattle.fn_core.specs.declared.Start.{Start}
-use Rattle.fn_core.specs.declared.Position.{Position}
 use Rattle.fn_core.specs.declared.answer.CoreStep.TheVariants.{Ready}
-use Rattle.fn_core.specs.State.{stage}
-use Rattle.fn_core.specs.Batches.{has_come}
-use Rattle.fn_core.specs.Positions.{Fits}
 use Rattle.fn_core.specs.Laws.{HasReply}
 use Rattle.fn_core.specs.Calls.{CoreLog, state_in, calls_in, IsLegal, IsIdle, HasCall, left_of}
-use Rattle.fn_core.proofs.Grows.{positions_fit}
+use Rattle.fn_core.specs.Entries.{IsBatched}
+use Rattle.fn_core.proofs.Entered.{funnelled_calls_are_batched}
 use Rattle.fn_table.specs.Seen.{PassView, own_of}
 use Rattle.fn_climb.specs.Begin.{HasBegun}
-use Rattle.fn_climb.specs.Steps.{IsLater, HasSameCall}
+use Rattle.fn_table.specs.Later.{IsLater}
+use Rattle.fn_climb.specs.Steps.{HasSameCall}
 use Rattle.fn_climb.specs.Turns.{Polled}
-use Rattle.fn_climb.proofs.Later.{later_on}
-use Rattle.fn_direct.specs.Called.{call_of, HasCalled}
-
--- a pass that makes no call has none underway
-pub none_underway : (core : CoreLog) (pass : ℕ) → IsLegal core → IsIdle core pass → HasCall core pass → ⊥
-none_underway core pass legal idle call =
-    let fits = subst (λ (position : Position). Fits core.start.shape.levels (λ k l. stage core.start (state_in core) k l pass) position) idle (positions_fit core.start core.log legal.0 legal.1 pass) in
-    false≢true (sym (ap has_come (fits call.0 1)) ∙ call.1)
-
--- a reply is no more than the cap
-pub within_cap : (core : CoreLog) (call : Call) (reply : ℕ) → IsLegal core → HasReply core.start (calls_in core) call reply → reply ≤ core.start.cap
-within_cap core call reply legal met = subst (λ (n : ℕ). n ≤ core.start.cap) met.4 (value_within_cap core.start.cap core.start.opening (take met.0 (calls_in core)) legal.0.opening)
+use Rattle.fn_table.proofs.Later.{later_on}
+use Rattle.fn_table.specs.Called.{call_of, HasCalled}
+use Rattle.fn_table.proofs.Claims.{none_underway}
 
 -- the pass begins a call, polls it in vain up to here, and then has its reply
 module _ (p b u q : PassView) (kind : Kind) (amount reply : ℕ) (legal : IsLegal p.seen) (idle : IsIdle p.seen p.number) (later : IsLater p u) (begun : HasBegun p kind amount b) (polls : HasSameCall b u) (polled : Polled u (Ready reply) q) where
@@ -81,3 +69,13 @@ module _ (p b u q : PassView) (kind : Kind) (amount reply : ℕ) (legal : IsLega
     spent = ap (λ (n : ℕ). left_of q.seen n + amount) (sym number) ∙ ap (λ (n : ℕ). n + amount) (polled.same.left ∙ polls.left) ∙ begun.left;
     idle = subst (λ (n : ℕ). IsIdle q.seen n) later.number polled.follows.0;
   }
+
+-- a call that has met a reply stands in the history
+pub has_met : (start : Start) (past : List Call) (call : Call) (reply : ℕ) → HasReply start past call reply → Contains past call
+has_met opened past call reply met = (met.0, met.2, met.3)
+
+-- a call that has waited at its leaf, and has its reply, has entered in a batch
+pub batched : (p b q : PassView) (kind : Kind) (amount reply : ℕ) → HasBegun p kind amount b → IsLater b q → HasReply q.seen.start (calls_in q.seen) (call_of p kind amount) reply → IsBatched q.seen (call_of p kind amount)
+batched p b q kind amount reply begun later met =
+    subst (λ (call : Call). Contains (calls_in q.seen) call → IsBatched q.seen call) begun.last (funnelled_calls_are_batched b.seen q.seen later.legal later.start later.begins b.number kind begun.waits)
+    (has_met q.seen.start (calls_in q.seen) (call_of p kind amount) reply met)

@@ -1,4 +1,4 @@
--- The words in which calls are told: of one integer and its history, and of nothing that lies below.
+-- What is claimed of calls: of one integer and its history, and of nothing that lies below.
 --     past pass, mine pass      the history that a pass has seen, and its own calls in it
 --     left pass      what it may still ask for
 --     Rests pass      it has no call underway

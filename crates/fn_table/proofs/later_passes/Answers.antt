@@ -1,5 +1,5 @@
-use Rattle.fn_climb.proofs.Later.{later_by, later_on, of_later}
-use Rattle.fn_climb.proofs.later_passes.Goals as goal
+use Rattle.fn_table.proofs.Later.{later_by, later_on, of_later}
+use Rattle.fn_table.proofs.later_passes.Goals as goal
 
 pub returns-clause-steps : goal.returns-clause-steps
 returns-clause-steps c = later_by
