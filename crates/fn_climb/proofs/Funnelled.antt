@@ -1,5 +1,5 @@
 -- A call through the funnel, from before its beginning up to its reply.
-use Rattle.std.proofs.Common.{◌≡◌, ℕ, suc, ◌+◌, ◌≤◌, length, sum, [], ◌∷◌, ◌++◌, Some, sym, ◌∙◌, ap, subst, arith}
+use Rattle.std.proofs.Common.{◌≡◌, ℕ, suc, ◌+◌, ◌≤◌, length, sum, List, [], ◌∷◌, ◌++◌, Some, sym, ◌∙◌, ap, subst, arith}
 use Rattle.std.specs.List.{Contains}
 use Rattle.fn_model.specs.declared.Call.{Call}
 use Rattle.fn_model.specs.declared.Kind.{Kind}

@@ -24,4 +24,3 @@ polls_keep p (why ∷ whys) q legal polls =
       later_on p polls.0 q first.later rest.0,
       record { made = rest.1.made ∙ first.same.made; last = rest.1.last ∙ first.same.last; left = rest.1.left ∙ first.same.left },
     )
-

@@ -25,9 +25,9 @@ pub use book::Book;
 pub use climbing::{
     announce, arrive, close_batch, fill, head, leave, look, peek, point, publish, scan, see,
 };
-pub use main_word::{apply_batch, direct, exchange, load_read, load_try};
 pub use fn_core::OpenFault;
 pub use fn_layout::{Field, Kind, Shape};
+pub use main_word::{apply_batch, direct, exchange, load_read, load_try};
 pub use meeting::{meet, note};
 pub use pass::{Note, Pass};
 pub use table::FunnelTable;
