@@ -75,3 +75,4 @@ pub mod OwnRows
 pub mod HandRows
 pub mod Entered
 pub mod Orders
+pub mod HeldBases

@@ -1,7 +1,7 @@
 //! The machine of aggregating funnels: its states, its events, and what holds after every legal log.
 #![tactic(auto)]
 
-ghost use Rattle.fn_core.specs.Laws.{RepliesAreRight, DirectRepliesAreRight, RepliesAreBounded, MainIsValue, CallsStandOnce, HistoriesGrow, PlacesAreBeyond, WordsAreSmall, AdditionsAddAll, BatchesFollow, BasesAreRight};
+ghost use Rattle.fn_core.specs.Laws.{RepliesAreRight, DirectRepliesAreRight, RepliesAreBounded, MainIsValue, CallsStandOnce, HistoriesGrow, PlacesAreBeyond, WordsAreSmall, AdditionsAddAll, BatchesFollow, BasesAreRight, HeldBasesAreRight};
 ghost use Rattle.fn_core.specs.Laws.{RowsAreLawful, RowsHaveNames, FreeRowsStay, FreeRowsAreFound, CallsKeepRows, ChosenRowsStay, LastCallsAreOwn, OwnCallsAreInOrder, OwnCallsGrowByOne, OwnCallsStay};
 ghost use Rattle.fn_core.specs.Laws.{EventsAreLocal, GuardsStay, NextIsOwn, EventsAreSteps, PositionsFit, CallsAlwaysGoOn, StepsRunOut, CallsAreShort, OthersCostNothing};
 ghost use Rattle.fn_core.specs.Trees.{TreesStand, OneStepAnEvent};
@@ -120,10 +120,11 @@ pub fn words_are_small()
     ensures additions { AdditionsAddAll }
 {}
 
-/// The batches of each aggregator go up one behind the other, and the first call of each meets its base.
+/// The batches of each aggregator go up one behind the other, and the first call of each meets its base, from the step that gives the base to its delegate.
 pub fn batches_follow()
     ensures batches { BatchesFollow }
     ensures bases { BasesAreRight }
+    ensures held { HeldBasesAreRight }
 {}
 
 /// One step of the main word stands for a whole tree of batches: all calls under a batch that enters stand side by side in the history, and each meets what the word found and the offsets on the way down give.
