@@ -76,3 +76,4 @@ pub mod HandRows
 pub mod Entered
 pub mod Orders
 pub mod HeldBases
+pub mod Offsets

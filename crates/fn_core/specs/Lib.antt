@@ -18,3 +18,4 @@ pub mod Polls
 pub mod Opening
 pub mod Entries
 pub mod Orders
+pub mod Offsets

@@ -5,6 +5,7 @@ ghost use Rattle.fn_core.specs.Laws.{RepliesAreRight, DirectRepliesAreRight, Rep
 ghost use Rattle.fn_core.specs.Laws.{RowsAreLawful, RowsHaveNames, FreeRowsStay, FreeRowsAreFound, CallsKeepRows, ChosenRowsStay, LastCallsAreOwn, OwnCallsAreInOrder, OwnCallsGrowByOne, OwnCallsStay};
 ghost use Rattle.fn_core.specs.Laws.{EventsAreLocal, GuardsStay, NextIsOwn, EventsAreSteps, PositionsFit, CallsAlwaysGoOn, StepsRunOut, CallsAreShort, OthersCostNothing};
 ghost use Rattle.fn_core.specs.Trees.{TreesStand, OneStepAnEvent};
+ghost use Rattle.fn_core.specs.Offsets.{TotalsAreSums, PassesStandAtOffsets, OffsetsAreApart};
 ghost use Rattle.fn_core.specs.Entries.{EntriesStay, NoCallEntersTwice, DirectCallsAreAlone, FunnelledCallsAreBatched};
 ghost use Rattle.fn_core.specs.Orders.{LogsArePartedAndJoined, RunsGoOn, HistoriesGoOn, CallsAreOfPasses, RestingPassesHaveNoCall, StepsLeave, OwnCallsLeave, BeginningsLeave, FaultlessStartsAreStarts};
 ghost use Rattle.fn_core.specs.Polls.{StepsFollow, PollsAreShort};
@@ -125,6 +126,13 @@ pub fn batches_follow()
     ensures batches { BatchesFollow }
     ensures bases { BasesAreRight }
     ensures held { HeldBasesAreRight }
+{}
+
+/// The word of each aggregator is the sum of what has arrived there. Who has arrived and has no reply yet stands among the arrivals at its offset, which no other arrival has.
+pub fn arrivals_have_offsets()
+    ensures totals { TotalsAreSums }
+    ensures offsets { PassesStandAtOffsets }
+    ensures apart { OffsetsAreApart }
 {}
 
 /// One step of the main word stands for a whole tree of batches: all calls under a batch that enters stand side by side in the history, and each meets what the word found and the offsets on the way down give.
