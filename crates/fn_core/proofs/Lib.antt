@@ -77,3 +77,4 @@ pub mod Entered
 pub mod Orders
 pub mod HeldBases
 pub mod Offsets
+pub mod Needs

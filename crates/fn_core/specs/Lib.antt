@@ -19,3 +19,4 @@ pub mod Opening
 pub mod Entries
 pub mod Orders
 pub mod Offsets
+pub mod Needs

@@ -6,6 +6,7 @@ ghost use Rattle.fn_core.specs.Laws.{RowsAreLawful, RowsHaveNames, FreeRowsStay,
 ghost use Rattle.fn_core.specs.Laws.{EventsAreLocal, GuardsStay, NextIsOwn, EventsAreSteps, PositionsFit, CallsAlwaysGoOn, StepsRunOut, CallsAreShort, OthersCostNothing};
 ghost use Rattle.fn_core.specs.Trees.{TreesStand, OneStepAnEvent};
 ghost use Rattle.fn_core.specs.Offsets.{TotalsAreSums, PassesStandAtOffsets, OffsetsAreApart};
+ghost use Rattle.fn_core.specs.Needs.{ScansAreEnough, UnneededRowsStay};
 ghost use Rattle.fn_core.specs.Entries.{EntriesStay, NoCallEntersTwice, DirectCallsAreAlone, FunnelledCallsAreBatched};
 ghost use Rattle.fn_core.specs.Orders.{LogsArePartedAndJoined, RunsGoOn, HistoriesGoOn, CallsAreOfPasses, RestingPassesHaveNoCall, StepsLeave, OwnCallsLeave, BeginningsLeave, FaultlessStartsAreStarts};
 ghost use Rattle.fn_core.specs.Polls.{StepsFollow, PollsAreShort};
@@ -149,7 +150,7 @@ pub fn entries_stay()
     ensures batched { FunnelledCallsAreBatched }
 {}
 
-/// Each aggregator keeps the row law, and a call keeps a free row at each level at which it may come to fill one, the first of which is the same from its beginning on.
+/// Each aggregator keeps the row law, and a call keeps a free row at each level at which it may come to fill one, the first of which is the same from its beginning on. What a scan found of a row is enough until the row is published again.
 pub fn rows_are_kept()
     ensures lawful { RowsAreLawful }
     ensures named { RowsHaveNames }
@@ -157,6 +158,8 @@ pub fn rows_are_kept()
     ensures found { FreeRowsAreFound }
     ensures kept { CallsKeepRows }
     ensures chosen { ChosenRowsStay }
+    ensures enough { ScansAreEnough }
+    ensures unneeded { UnneededRowsStay }
 {}
 
 /// The own calls of a pass stand in the history in the order in which it made them, and each call adds itself alone.
