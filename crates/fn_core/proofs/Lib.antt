@@ -75,3 +75,6 @@ pub mod OwnRows
 pub mod HandRows
 pub mod Entered
 pub mod Orders
+pub mod HeldBases
+pub mod Offsets
+pub mod Needs

@@ -2,6 +2,7 @@
 --     Gone start s p kind level hi      the pass's batch at this level ends at hi, and has gone up
 --     IsUp start s kind level index end      the last batch of the aggregator that has gone up ends there
 --     IsContiguous start s      the published batches have gone up, and at most one more
+--     HoldsBase stage lo hi base      a delegate that holds this base for its batch from lo up to hi
 use Rattle.std.specs.Prelude.{◌≡◌, ◌⊎◌, ℕ, suc, Bool, true, false}
 use Rattle.fn_model.specs.declared.Kind.{Kind}
 use Rattle.fn_model.specs.Order.{end_of_batches, batches_of}
@@ -46,3 +47,13 @@ Backs start s kind below index = IsUp start s kind (suc below) index (s.rows kin
 pub record IsContiguous (start : Start) (s : State) : Type 0 where
   pub gone : (p : ℕ) (kind : Kind) (below hi : ℕ) → Gone start s p kind (suc below) hi → IsUp start s kind (suc below) (aggregator start.shape p (suc below)) hi
   pub back : (kind : Kind) (below index : ℕ) → Backs start s kind below index
+
+-- the delegate holds this base for its batch from lo up to hi
+abbrev pub HoldsBase : Stage → ℕ → ℕ → ℕ → Type 0
+HoldsBase (Based at h b) lo hi base = (at ≡ lo) × (h ≡ hi) × (b ≡ base)
+HoldsBase (Headed at h b w) lo hi base = (at ≡ lo) × (h ≡ hi) × (b ≡ base)
+HoldsBase (FilledLo at h b w r) lo hi base = (at ≡ lo) × (h ≡ hi) × (b ≡ base)
+HoldsBase (FilledBase at h b w r) lo hi base = (at ≡ lo) × (h ≡ hi) × (b ≡ base)
+HoldsBase (Filled at h b r) lo hi base = (at ≡ lo) × (h ≡ hi) × (b ≡ base)
+HoldsBase (Pointed at h b r) lo hi base = (at ≡ lo) × (h ≡ hi) × (b ≡ base)
+HoldsBase _ lo hi base = ⊥

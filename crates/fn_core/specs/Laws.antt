@@ -1,5 +1,5 @@
 -- What holds after every legal log.
-use Rattle.std.specs.Prelude.{◌≡◌, ◌≢◌, ◌⊎◌, ℕ, zero, suc, ◌+◌, ◌/◌, ◌<◌, ◌≤◌, ◌^◌, ⊤, List, [], ◌∷◌, ◌++◌, length, get_or, sum, Some, true, ◌*◌}
+use Rattle.std.specs.Prelude.{◌≡◌, ◌≢◌, ◌⊎◌, ℕ, zero, suc, ◌+◌, ◌/◌, ◌<◌, ◌≤◌, ◌^◌, ⊤, List, [], ◌∷◌, ◌++◌, length, sum, Some, true, ◌*◌}
 use Rattle.fn_model.specs.declared.Call.{Call}
 use Rattle.fn_model.specs.declared.Kind.{Kind}
 use Rattle.fn_model.specs.Calls.{count, place, own}
@@ -26,7 +26,7 @@ use Rattle.fn_core.specs.Words.{row_there}
 use Rattle.fn_core.specs.Words.{own as own_words}
 use Rattle.fn_core.specs.Positions.{Fits}
 use Rattle.fn_core.specs.Filling.{FillsAt}
-use Rattle.fn_core.specs.Batches.{has_come, IsContiguous}
+use Rattle.fn_core.specs.Batches.{has_come, IsContiguous, HoldsBase}
 
 -- it holds after every legal log of every start
 abbrev pub Always : (Start → State → Type 0) → Type 0
@@ -125,6 +125,11 @@ PositionsFit = Always (λ start s. (pass : ℕ) → Fits start.shape.levels (λ 
 -- the calls of a batch that a row has held stand in the history, and the first of them meets the batch's base
 abbrev pub BasesAreRight : Type 0
 BasesAreRight = Always (λ start s. (kind : Kind) (level index : ℕ) (b : Batch) → IsIn b (s.rows kind level index).linked → StandsIn start.cap start.opening (history_in start s) (expand (s.arrivals kind) level index b.lo b.hi) b.base)
+
+-- the calls of a batch stand in the history from the step on that gives its delegate the base, and the first of them meets the base
+abbrev pub HeldBasesAreRight : Type 0
+HeldBasesAreRight = Always (λ start s. (pass : ℕ) (kind : Kind) (below lo hi base : ℕ) → HoldsBase (stage start s kind (suc below) pass) lo hi base
+    → StandsIn start.cap start.opening (history_in start s) (expand (s.arrivals kind) (suc below) (aggregator start.shape pass (suc below)) lo hi) base)
 
 -- no call meets more than the opening and all allowances
 abbrev pub RepliesAreBounded : Type 0

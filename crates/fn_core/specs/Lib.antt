@@ -18,3 +18,5 @@ pub mod Polls
 pub mod Opening
 pub mod Entries
 pub mod Orders
+pub mod Offsets
+pub mod Needs

@@ -1,10 +1,12 @@
 //! The machine of aggregating funnels: its states, its events, and what holds after every legal log.
 #![tactic(auto)]
 
-ghost use Rattle.fn_core.specs.Laws.{RepliesAreRight, DirectRepliesAreRight, RepliesAreBounded, MainIsValue, CallsStandOnce, HistoriesGrow, PlacesAreBeyond, WordsAreSmall, AdditionsAddAll, BatchesFollow, BasesAreRight};
+ghost use Rattle.fn_core.specs.Laws.{RepliesAreRight, DirectRepliesAreRight, RepliesAreBounded, MainIsValue, CallsStandOnce, HistoriesGrow, PlacesAreBeyond, WordsAreSmall, AdditionsAddAll, BatchesFollow, BasesAreRight, HeldBasesAreRight};
 ghost use Rattle.fn_core.specs.Laws.{RowsAreLawful, RowsHaveNames, FreeRowsStay, FreeRowsAreFound, CallsKeepRows, ChosenRowsStay, LastCallsAreOwn, OwnCallsAreInOrder, OwnCallsGrowByOne, OwnCallsStay};
 ghost use Rattle.fn_core.specs.Laws.{EventsAreLocal, GuardsStay, NextIsOwn, EventsAreSteps, PositionsFit, CallsAlwaysGoOn, StepsRunOut, CallsAreShort, OthersCostNothing};
 ghost use Rattle.fn_core.specs.Trees.{TreesStand, OneStepAnEvent};
+ghost use Rattle.fn_core.specs.Offsets.{TotalsAreSums, PassesStandAtOffsets, OffsetsAreApart};
+ghost use Rattle.fn_core.specs.Needs.{ScansAreEnough, UnneededRowsStay};
 ghost use Rattle.fn_core.specs.Entries.{EntriesStay, NoCallEntersTwice, DirectCallsAreAlone, FunnelledCallsAreBatched};
 ghost use Rattle.fn_core.specs.Orders.{LogsArePartedAndJoined, RunsGoOn, HistoriesGoOn, CallsAreOfPasses, RestingPassesHaveNoCall, StepsLeave, OwnCallsLeave, BeginningsLeave, FaultlessStartsAreStarts};
 ghost use Rattle.fn_core.specs.Polls.{StepsFollow, PollsAreShort};
@@ -118,10 +120,18 @@ pub fn words_are_small()
     ensures additions { AdditionsAddAll }
 {}
 
-/// The batches of each aggregator go up one behind the other, and the first call of each meets its base.
+/// The batches of each aggregator go up one behind the other, and the first call of each meets its base, from the step that gives the base to its delegate.
 pub fn batches_follow()
     ensures batches { BatchesFollow }
     ensures bases { BasesAreRight }
+    ensures held { HeldBasesAreRight }
+{}
+
+/// The word of each aggregator is the sum of what has arrived there. Who has arrived and has no reply yet stands among the arrivals at its offset, which no other arrival has.
+pub fn arrivals_have_offsets()
+    ensures totals { TotalsAreSums }
+    ensures offsets { PassesStandAtOffsets }
+    ensures apart { OffsetsAreApart }
 {}
 
 /// One step of the main word stands for a whole tree of batches: all calls under a batch that enters stand side by side in the history, and each meets what the word found and the offsets on the way down give.
@@ -138,7 +148,7 @@ pub fn entries_stay()
     ensures batched { FunnelledCallsAreBatched }
 {}
 
-/// Each aggregator keeps the row law, and a call keeps a free row at each level at which it may come to fill one, the first of which is the same from its beginning on.
+/// Each aggregator keeps the row law, and a call keeps a free row at each level at which it may come to fill one, the first of which is the same from its beginning on. What a scan found of a row is enough until the row is published again.
 pub fn rows_are_kept()
     ensures lawful { RowsAreLawful }
     ensures named { RowsHaveNames }
@@ -146,6 +156,8 @@ pub fn rows_are_kept()
     ensures found { FreeRowsAreFound }
     ensures kept { CallsKeepRows }
     ensures chosen { ChosenRowsStay }
+    ensures enough { ScansAreEnough }
+    ensures unneeded { UnneededRowsStay }
 {}
 
 /// The own calls of a pass stand in the history in the order in which it made them, and each call adds itself alone.

@@ -1,14 +1,14 @@
 -- What the invariant says.
 use Rattle.std.proofs.Common.{◌≡◌, ◌⊎◌, inl, inr, ⊎_elim, ℕ, zero, suc, ◌-◌, ◌<◌, ◌≤◌, List, [], ◌∷◌, ◌++◌, refl, sym, ◌∙◌, ap, subst, arith}
 use Rattle.std.specs.Prelude.{Some, None, true}
-use Rattle.fn_rows.specs.Machine.{Stage, Out, Saw, Told, Waiting, Lead, Late, Shut, Based, Headed, FilledLo, FilledBase, Filled, Pointed, At, Over, Hit, Got, offset, Field, Lo, Base, Prev, Step, Scan, See, Announce, Arrive, Look, Close, Hand_base, Head, Fill, Point, Publish, Peek, Leave, put, start, after, announce_by, look_by, close_by, hand_by, head_by, fill_by, point_by, publish_by, peek_by, Lets, Guard, Allowed, AllAllowed}
+use Rattle.fn_rows.specs.Machine.{Stage, FilledLo, FilledBase, Filled, Pointed, At, Over, Hit, offset, Field, Lo, Base, Prev, Step, Fill, start, Lets, Allowed, AllAllowed}
 use Rattle.fn_rows.specs.Trace.{Batch, Traced, nothing, traced, run}
-use Rattle.fn_rows.specs.Law.{end_of, link_of, IsChained, IsIn, Stands, HasArrived, Needs, leads, row_filled, row_mixed, row_in_hand, follow, HoldsBatch, IsOrdered, IsTold, IsKept, Publishes, NonePublishes}
-use Rattle.fn_rows.proofs.Put.{put_case, put_there}
+use Rattle.fn_rows.specs.Law.{end_of, link_of, IsChained, IsIn, Stands, Needs, leads, row_filled, row_mixed, row_in_hand, follow, HoldsBatch, IsOrdered, IsTold, IsKept, NonePublishes}
 use Rattle.fn_rows.proofs.Invariant.{Calm, Leading, IsUnneededBy, IsUnneeded, IsOurs, Inv, inv_start, in_below, led}
 use Rattle.fn_rows.proofs.Moves.{one_leader, chained_published, linked_total, end_done, not_awaited, IsNotPointed}
 use Rattle.fn_rows.proofs.Words.{free_unneeded, let_by}
-use Rattle.fn_rows.proofs.Steps.{looked_cases, peeked_cases, keeps, reaches}
+use Rattle.fn_rows.proofs.Steps.{reaches}
+use Rattle.fn_rows.proofs.Unneeded.{unneeded_until}
 
 -- a member that doesn't need a row doesn't
 pub not_needed : (s : Traced) (q r : ℕ) → IsUnneededBy s q r → Needs s.state q r → ⊥
@@ -143,80 +143,6 @@ module _ (members rows : ℕ) (s : Traced) (inv : Inv members rows s) where
         let published : IsIn c.0 s.published = ⊎_elim (λ old. old) (λ past. absurd (omega (arith, past, c.4))) (published_or_past c.0 at c.1 c.6) in
         (c.0, published, c.2, inv.standing q at c.0 (ap offset is) c.1 c.3, c.5, c.4, c.3);
   }
-
-  -- an offset is kept or given out anew
-  abbrev From : ℕ → ℕ → Type 0
-  From q at = HasArrived s.state q at ⊎ (s.total ≡ at)
-
-  from_move : (m : ℕ) (g : Stage) → ((at : ℕ) → offset g ≡ Some at → From m at) → (q at : ℕ) → offset (put s.stage m g q) ≡ Some at → From q at
-  from_move m g new q at h = put_case (λ x. offset x ≡ Some at → From q at) s.stage m g q (λ same o. subst (λ i. From i at) (sym same) (new at o)) (λ other o. inl o) h
-
-  from_same : (m : ℕ) (old g : Stage) → s.stage m ≡ old → offset g ≡ offset old → (q at : ℕ) → offset (put s.stage m g q) ≡ Some at → From q at
-  from_same m old g is same = from_move m g (λ at o. inl (ap offset is ∙ sym same ∙ o))
-
-  from_none : (m : ℕ) (g : Stage) → offset g ≡ None → (q at : ℕ) → offset (put s.stage m g q) ≡ Some at → From q at
-  from_none m g none = from_move m g (λ at o. absurd (cc (none, o)))
-
-  from : (step : Step) → Guard members rows s.state step → (q at : ℕ) → HasArrived (after s.state step) q at → From q at
-  from (Scan m other) a q at h = inl h
-  from (See m) a q at h = from_none m (Saw s.done) refl q at h
-  from (Announce m) a q at h = from_none m (Told a.0) refl q at (subst (λ g. HasArrived (announce_by s.state m g) q at) a.1 h)
-  from (Arrive m weight) a q at h = from_move m (Waiting s.total) (λ at' o. inr (cc (o))) q at h
-  from (Look m) a q at h = looked_cases (λ g. offset (put s.stage m g q) ≡ Some at → From q at) a.0 s.done
-      (λ below. from_same m (Waiting a.0) (Waiting a.0) a.1 refl q at)
-      (λ equal. from_same m (Waiting a.0) (Lead a.0) a.1 refl q at)
-      (λ above. from_same m (Waiting a.0) (Late a.0) a.1 refl q at)
-      (subst (λ g. HasArrived (look_by s.state m g) q at) a.1 h)
-  from (Close m) a q at h = from_same m (Lead a.0) (Shut a.0 s.total) a.1 refl q at (subst (λ g. HasArrived (close_by s.state m g) q at) a.1 h)
-  from (Hand_base m b) a q at h = from_same m (Shut a.0 a.1) (Based a.0 a.1 b) a.2 refl q at (subst (λ g. HasArrived (hand_by s.state m b g) q at) a.2 h)
-  from (Head m) (inl a) q at h = from_same m (Based a.0 a.1 a.2) (Headed a.0 a.1 a.2 s.last) a.3 refl q at (subst (λ g. HasArrived (head_by s.state m g) q at) a.3 h)
-  from (Head m) (inr a) q at h = from_same m (Late a.0) (At a.0 (s.last - 1)) a.1 refl q at (subst (λ g. HasArrived (head_by s.state m g) q at) a.1 h)
-  from (Fill m r Lo word) a q at h = from_same m (Headed a.0 a.1 a.2 a.3) (FilledLo a.0 a.1 a.2 a.3 r) a.4 refl q at (subst (λ g. HasArrived (fill_by s.state m r Lo word g) q at) a.4 h)
-  from (Fill m r Base word) a q at h = from_same m (FilledLo a.0 a.1 a.2 a.3 r) (FilledBase a.0 a.1 a.2 a.3 r) a.4 refl q at (subst (λ g. HasArrived (fill_by s.state m r Base word g) q at) a.4 h)
-  from (Fill m r Prev word) a q at h = from_same m (FilledBase a.0 a.1 a.2 a.3 r) (Filled a.0 a.1 a.2 r) a.4 refl q at (subst (λ g. HasArrived (fill_by s.state m r Prev word g) q at) a.4 h)
-  from (Point m) a q at h = from_same m (Filled a.0 a.1 a.2 a.3) (Pointed a.0 a.1 a.2 a.3) a.4 refl q at (subst (λ g. HasArrived (point_by s.state m g) q at) a.4 h)
-  from (Publish m) a q at h = from_none m (Got a.2 0) refl q at (subst (λ g. HasArrived (publish_by s.state m g) q at) a.4 h)
-  from (Peek m) (inl a) q at h = peeked_cases (λ g. offset (put s.stage m g q) ≡ Some at → From q at) a.0 a.1 (s.lo a.1)
-      (λ hit. from_same m (At a.0 a.1) (Hit a.0 a.1 (s.lo a.1)) a.2 refl q at)
-      (λ over. from_same m (At a.0 a.1) (Over a.0 a.1) a.2 refl q at)
-      (subst (λ g. HasArrived (peek_by s.state m g) q at) a.2 h)
-  from (Peek m) (inr (inl a)) q at h = from_same m (Over a.0 a.1) (At a.0 (s.prev a.1 - 1)) a.2 refl q at (subst (λ g. HasArrived (peek_by s.state m g) q at) a.2 h)
-  from (Peek m) (inr (inr a)) q at h = from_none m (Got (s.base a.1) (a.0 - a.2)) refl q at (subst (λ g. HasArrived (peek_by s.state m g) q at) a.3 h)
-  from (Leave m) a q at h = from_none m Out refl q at h
-
-  -- a row's end changes only where the row is published
-  end_same : (step : Step) (r : ℕ) → Guard members rows s.state step → (Publishes s.state r step → ⊥) → (after s.state step).end r ≡ s.end r
-  end_same (Scan m other) r a not = refl
-  end_same (See m) r a not = refl
-  end_same (Announce m) r a not = subst (λ g. (announce_by s.state m g).end r ≡ s.end r) (sym a.1) refl
-  end_same (Arrive m weight) r a not = refl
-  end_same (Look m) r a not = subst (λ g. (look_by s.state m g).end r ≡ s.end r) (sym a.1) refl
-  end_same (Close m) r a not = subst (λ g. (close_by s.state m g).end r ≡ s.end r) (sym a.1) refl
-  end_same (Hand_base m b) r a not = subst (λ g. (hand_by s.state m b g).end r ≡ s.end r) (sym a.2) refl
-  end_same (Head m) r (inl a) not = subst (λ g. (head_by s.state m g).end r ≡ s.end r) (sym a.3) refl
-  end_same (Head m) r (inr a) not = subst (λ g. (head_by s.state m g).end r ≡ s.end r) (sym a.1) refl
-  end_same (Fill m row Lo word) r a not = refl
-  end_same (Fill m row Base word) r a not = refl
-  end_same (Fill m row Prev word) r a not = refl
-  end_same (Point m) r a not = subst (λ g. (point_by s.state m g).end r ≡ s.end r) (sym a.4) refl
-  end_same (Publish m) r a not = subst (λ g. (publish_by s.state m g).end r ≡ s.end r) (sym a.4) (put_there s.end a.3 a.1 r (λ same. not (m, a.0, a.1, a.2, refl, a.4 ∙ ap (λ row. Pointed a.0 a.1 a.2 row) (sym same))))
-  end_same (Peek m) r (inl a) not = subst (λ g. (peek_by s.state m g).end r ≡ s.end r) (sym a.2) refl
-  end_same (Peek m) r (inr (inl a)) not = subst (λ g. (peek_by s.state m g).end r ≡ s.end r) (sym a.2) refl
-  end_same (Peek m) r (inr (inr a)) not = subst (λ g. (peek_by s.state m g).end r ≡ s.end r) (sym a.3) refl
-  end_same (Leave m) r a not = refl
-
-  -- who doesn't need a row doesn't after a step that doesn't publish it
-  unneeded_after : (step : Step) (q r : ℕ) → Guard members rows s.state step → (Publishes s.state r step → ⊥) → IsUnneededBy s q r → IsUnneededBy (traced s step) q r
-  unneeded_after step q r a not unneeded at h = elim (from step a q at h) [
-    | inl old ↦ omega (arith, end_same step r a not, unneeded at old)
-    | inr new ↦ omega (arith, end_same step r a not, new, end_done members rows s inv r, inv.done_total)
-  ]
-
--- nor after any steps of which none publishes it
-pub unneeded_until : (members rows : ℕ) (steps : List Step) (s : Traced) (q r : ℕ) → Inv members rows s → AllAllowed members rows steps s.state → NonePublishes r steps s.state → IsUnneededBy s q r → IsUnneededBy (run steps s) q r
-unneeded_until members rows [] s q r inv a none unneeded = unneeded
-unneeded_until members rows (step ∷ steps) s q r inv a none unneeded =
-    unneeded_until members rows steps (traced s step) q r (keeps members rows s inv step a.0) a.1 none.1 (unneeded_after members rows s inv step q r a.0.1 none.0 unneeded)
 
 -- steps and then more steps
 pub run_append : (before later : List Step) (s : Traced) → run (before ++ later) s ≡ run later (run before s)

@@ -3,6 +3,7 @@ pub mod Invariant
 pub mod Moves
 pub mod Words
 pub mod Steps
+pub mod Unneeded
 pub mod Laws
 pub mod Walks
 pub mod Examples

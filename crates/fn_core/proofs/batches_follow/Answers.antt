@@ -1,5 +1,6 @@
 use Rattle.fn_core.proofs.Laws.{batches_follow}
 use Rattle.fn_core.proofs.Grows.{bases_are_right}
+use Rattle.fn_core.proofs.HeldBases.{held_bases_are_right}
 use Rattle.fn_core.proofs.batches_follow.Goals as goal
 
 pub returns-clause-batches : goal.returns-clause-batches
@@ -7,3 +8,6 @@ returns-clause-batches c = batches_follow
 
 pub returns-clause-bases : goal.returns-clause-bases
 returns-clause-bases c = bases_are_right
+
+pub returns-clause-held : goal.returns-clause-held
+returns-clause-held c = held_bases_are_right

@@ -4,6 +4,7 @@ use Rattle.fn_core.proofs.Free.{free_rows_stay}
 use Rattle.fn_core.proofs.FirstFree.{free_rows_are_found}
 use Rattle.fn_core.proofs.Filling.{calls_keep_rows}
 use Rattle.fn_core.proofs.Chosen.{chosen_rows_stay}
+use Rattle.fn_core.proofs.Needs.{scans_are_enough, unneeded_rows_stay}
 use Rattle.fn_core.proofs.rows_are_kept.Goals as goal
 
 pub returns-clause-lawful : goal.returns-clause-lawful
@@ -23,3 +24,9 @@ returns-clause-kept c = calls_keep_rows
 
 pub returns-clause-chosen : goal.returns-clause-chosen
 returns-clause-chosen c = chosen_rows_stay
+
+pub returns-clause-enough : goal.returns-clause-enough
+returns-clause-enough c = scans_are_enough
+
+pub returns-clause-unneeded : goal.returns-clause-unneeded
+returns-clause-unneeded c = unneeded_rows_stay
