@@ -1,6 +1,6 @@
 -- The steps by which a call that has the base of its batch fills a row and publishes it: what each needs, and what they leave together.
-use Rattle.std.proofs.Common.{◌≡◌, inl, inr, ℕ, zero, suc, ◌+◌, ◌-◌, ◌*◌, ◌/◌, ◌%◌, ◌<◌, ◌≤◌, List, [], ◌∷◌, Some, None, refl, sym, ap, subst, ◌∙◌, arith, length}
-use Rattle.std.specs.Prelude.{slice_index_or, set}
+use Rattle.std.proofs.Common.{◌≡◌, inl, inr, ℕ, ◌+◌, ◌-◌, ◌*◌, ◌%◌, ◌<◌, List, [], ◌∷◌, None, refl, sym, ap, subst, ◌∙◌, arith}
+use Rattle.std.specs.Prelude.{slice_index_or}
 use Rattle.std.proofs.lemmas.List.{get_or-set_same, set-set}
 use Rattle.std.proofs.lemmas.Nat.{mod-mul-add}
 use Rattle.fn_model.specs.declared.Kind.{Kind}
@@ -8,10 +8,9 @@ use Rattle.fn_rows.specs.declared.Field.TheVariants.{Lo, Base, Prev}
 use Rattle.fn_rows.specs.declared.Stage.{Stage}
 use Rattle.fn_rows.specs.declared.Stage.TheVariants.{Out, Based, Headed, FilledLo, FilledBase, Filled, Pointed, Got}
 use Rattle.fn_layout.specs.declared.shape.Shape.{Shape}
-use Rattle.fn_layout.specs.Tree.{IsLevel, aggregator, member}
+use Rattle.fn_layout.specs.Tree.{aggregator, member}
 use Rattle.fn_layout.specs.Words.{slot_number, row_number}
 use Rattle.fn_layout.proofs.Tree.{aggregator_below}
-use Rattle.fn_core.specs.declared.Start.{Start}
 use Rattle.fn_core.specs.declared.Move.{Move}
 use Rattle.fn_core.specs.declared.Move.TheVariants.{Head, Fill, Point, Publish}
 use Rattle.fn_core.specs.declared.answer.CoreStep.TheVariants as told

@@ -7,6 +7,7 @@ pub mod Batch
 pub mod Tops
 pub mod Sofar
 pub mod Along
+pub mod Members
 pub mod Scans
 pub mod Levels
 pub mod Every

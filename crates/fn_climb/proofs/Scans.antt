@@ -1,6 +1,6 @@
 -- The scans of a beginning: what each leaves, and what they tell of a row.
-use Rattle.std.proofs.Common.{◌≡◌, ◌≢◌, inl, inr, ℕ, ◌+◌, ◌-◌, ◌<◌, ◌≤◌, Bool, true, false, List, [], ◌∷◌, ◌++◌, Option, Some, None, not, map, option_map, refl, sym, ap, subst, ◌∙◌, arith}
-use Rattle.std.specs.Prelude.{◌==◌, if◌then◌else◌}
+use Rattle.std.proofs.Common.{◌≡◌, ◌≢◌, inl, inr, ℕ, zero, suc, ◌+◌, ◌-◌, ◌<◌, ◌≤◌, Bool, true, false, List, [], ◌∷◌, ◌++◌, Option, Some, None, not, map, option_map, refl, sym, ap, subst, ◌∙◌, arith}
+use Rattle.std.specs.Prelude.{◌==◌, ◌&&◌, if◌then◌else◌}
 use Rattle.std.specs.List.{range_with_len, filter, find}
 use Rattle.std.proofs.lemmas.Bool.{cases_eq, eq-eqb, ne_eqb, eqb-true, false≢true, and_parts, and_from}
 use Rattle.running.proofs.Logs.{prefix_refl}
@@ -8,8 +8,9 @@ use Rattle.fn_model.specs.declared.Kind.{Kind}
 use Rattle.fn_rows.specs.Machine.{put, Lets}
 use Rattle.fn_rows.proofs.Put.{put_here, put_there}
 use Rattle.fn_layout.specs.declared.shape.Shape.{Shape}
-use Rattle.fn_layout.specs.Tree.{IsLevel, aggregator, member}
+use Rattle.fn_layout.specs.Tree.{IsLevel, aggregator, member, members, pass_of}
 use Rattle.fn_layout.proofs.Members as layout
+use Rattle.fn_layout.proofs.Tree.{aggregator_below}
 use Rattle.fn_core.specs.declared.Start.{Start}
 use Rattle.fn_core.specs.declared.Move.{Move}
 use Rattle.fn_core.specs.declared.Move.TheVariants.{Scan}
@@ -28,6 +29,7 @@ use Rattle.fn_table.proofs.Spares.{level_case}
 use Rattle.fn_climb.specs.Begin.{Taken, Takes, scan_taken, blocked_load, IsStill, RowTried}
 use Rattle.fn_table.proofs.Later.{later_by, later_on, of_later}
 use Rattle.fn_climb.proofs.Goes.{level_same}
+use Rattle.fn_climb.proofs.Members.{passed, passed_more, HasNone, before_next, behind_last}
 use Rattle.fn_climb.proofs.Along.{flat_map-one, yields, finds_first, Along, along_start, along_skip, along_past, along_stop, along_through}
 
 -- a function that is put where it stands
@@ -82,6 +84,10 @@ may_scan p q kind level x still inside idle change at less other =
     subst (λ (z : Start × ℕ). Allowed z.0 (state_in q.seen) (event z.1 (Scan kind level x))) (λ i. (sym still.later.start i, sym still.later.number i))
     (inside, (here, change, at.0, at.1, less, (λ same. false≢true (sym (ap not (eq-eqb x p.number same)) ∙ both.1)), eqb-true (aggregator p.seen.start.shape x level) (aggregator p.seen.start.shape p.number level) both.0))
 
+not_and : (a b : Bool) → b ≡ false → (a && b) ≡ false
+not_and true b is = is
+not_and false b is = refl
+
 module _ (p : PassView) (kind : Kind) (level n : ℕ) where
   abbrev shape : Shape
   shape = p.seen.start.shape
@@ -133,6 +139,66 @@ module _ (p : PassView) (kind : Kind) (level n : ℕ) where
       | inr ne ↦ so.let_by x (omega (arith, below, ne)) another same
     ];
   }
+
+  -- the pass's aggregator at the level
+  abbrev pub home : ℕ
+  home = aggregator shape p.number level
+
+  apart_is_no_other : (x : ℕ) → aggregator shape x level ≢ home → is_other shape level p.number x ≡ false
+  apart_is_no_other x apart = ap (λ (b : Bool). b && not (x == p.number)) (ne_eqb (aggregator shape x level) home apart)
+
+  itself_is_no_other : (x : ℕ) → x ≡ p.number → is_other shape level p.number x ≡ false
+  itself_is_no_other x same = not_and (aggregator shape x level == home) (not (x == p.number)) (ap not (eq-eqb x p.number same))
+
+  skips : (gap i j : ℕ) (q : PassView) → i + gap ≡ j → j ≤ shape.passes → ((x : ℕ) → i ≤ x → x < j → aggregator shape x level ≢ home) → RowSoFar i q → RowSoFar j q
+  skips zero i j q is within none so = subst (λ (k : ℕ). RowSoFar k q) (let e : i ≡ j = omega (arith, is) in e) so
+  skips (suc gap) i j q is within none so =
+      skips gap (i + 1) j q (omega (arith, is)) within (λ x from before. none x (omega (arith, from)) before)
+      (row_skip i q so (omega (arith, is, within)) (apart_is_no_other i (none i (omega arith) (omega (arith, is)))))
+
+  -- passes of other aggregators are left out
+  row_past : (i j : ℕ) (q : PassView) → HasNone shape level home i j → RowSoFar i q → RowSoFar j q
+  row_past i j q none so = skips (j - i) i j q (omega (arith, none.rises)) none.within none.none so
+
+  -- The members of the pass's aggregator below m were scanned for the row
+  abbrev pub MembersSoFar : ℕ → PassView → Type 0
+  MembersSoFar m q = RowSoFar (passed shape level home m) q
+
+  -- The m-th member of the pass's aggregator
+  pub record IsMember (m x : ℕ) : Type 0 where
+    pub less : m < members shape level home
+    pub is : x ≡ pass_of shape level home m
+
+  pub is_member : (s : Shape) (number index m x : ℕ) → s ≡ shape → number ≡ p.number → index ≡ aggregator s number level → m < members s level index → x ≡ pass_of s level index m → IsMember m x
+  is_member s number index m x a b c less is =
+      let there : index ≡ home = c ∙ (λ i. aggregator (a i) (b i) level) in record {
+        less = subst (λ (z : Shape × ℕ). m < members z.0 level z.1) (λ i. (a i, there i)) less;
+        is = is ∙ (λ i. pass_of (a i) level (there i) m);
+      }
+
+  module _ (m x : ℕ) (at : IsMember m x) where
+    pub member_inside : x < shape.passes
+    member_inside = omega (arith, (layout.numbers_are_members shape level home m (aggregator_below shape p.number level) at.less).0, at.is)
+
+    pub member_other : x ≢ p.number → is_other shape level p.number x ≡ true
+    member_other another = is_other_yes x another (ap (λ (k : ℕ). aggregator shape k level) at.is ∙ (layout.numbers_are_members shape level home m (aggregator_below shape p.number level) at.less).1)
+
+    -- the passes before it are scanned with the members before it
+    pub before_member : (q : PassView) → MembersSoFar m q → RowSoFar x q
+    before_member q so =
+        subst (λ (k : ℕ). RowSoFar k q) (sym at.is)
+        (row_past (passed shape level home m) (pass_of shape level home m) q (before_next shape level home (aggregator_below shape p.number level) m at.less) so)
+
+    pub past_member : (q : PassView) → RowSoFar (x + 1) q → MembersSoFar (m + 1) q
+    past_member q so = subst (λ (k : ℕ). RowSoFar k q) (ap (λ (k : ℕ). k + 1) at.is ∙ passed_more shape level home m) so
+
+    -- the pass itself is no other one
+    pub member_skip : (q : PassView) → MembersSoFar m q → x ≡ p.number → MembersSoFar (m + 1) q
+    member_skip q so same = past_member q (row_skip x q (before_member q so) member_inside (itself_is_no_other x same))
+
+  -- .. and all passes with all members
+  pub past_all : (m : ℕ) (q : PassView) → MembersSoFar m q → m ≡ members shape level home → RowSoFar shape.passes q
+  past_all m q so last = row_past (passed shape level home m) shape.passes q (behind_last shape level home (aggregator_below shape p.number level) m last) so
 
   -- what is scanned for a row that was filled before
   as_takings : end ≢ 0 → (words : ℕ → ℕ) → map (scan_taken kind level words) (scanned_by shape level p.number words end) ≡ yields out_scan blocks_row words (others shape level p.number)

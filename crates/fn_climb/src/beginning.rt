@@ -3,7 +3,6 @@ ghost use Rattle.std.specs.Prelude.{◌≡◌, ◌<◌, IfOk, IfErr};
 ghost use Rattle.fn_layout.specs.Tree.{IsLevel};
 ghost use Rattle.fn_layout.specs.Words.{IsSlot};
 ghost use Rattle.fn_core.specs.Machine.{IsChange, MaySpend};
-ghost use Rattle.fn_core.specs.Begin.{is_other};
 ghost use Rattle.fn_core.specs.Calls.{state_in, IsIdle};
 ghost use Rattle.fn_table.specs.Seen.{IsOf, own_of};
 ghost use Rattle.fn_climb.specs.declared.beginning.Begun.TheVariants as begun;
@@ -13,7 +12,7 @@ ghost use Rattle.fn_climb.specs.Begin.{AreOpen, Arrived, BeginAnswers, RowTried,
 use crate::course::Course;
 use crate::pending::Pending;
 use fn_core::Blocked;
-use fn_layout::{Kind, Shape};
+use fn_layout::Kind;
 use fn_rows::{Stage, lets};
 use fn_table::{FunnelTable, Pass, announce, arrive, scan, see};
 
@@ -134,7 +133,7 @@ fn find_row(table: &FunnelTable, pass: &mut Pass, kind: Kind, level: u32) -> Res
     Err(last)
 }
 
-// Tries a row, which is open without a scan where it was never filled, and gives the load that blocks it.
+// Tries a row, which is open without a scan where it was never filled, and gives the load of another member that blocks it.
 fn try_row(
     table: &FunnelTable,
     pass: &mut Pass,
@@ -155,8 +154,10 @@ fn try_row(
         return None;
     }
     let shape = table.shape();
-    for other in 0..shape.passes() {
-        if !is_other(shape, level, number, other) {
+    let index = shape.aggregator_of(number, level);
+    for member in 0..shape.members(level, index) {
+        let other = shape.pass_of(level, index, member);
+        if other == number {
             continue;
         }
         let word = scan(table, pass, kind, level, other);
@@ -170,14 +171,4 @@ fn try_row(
         }
     }
     None
-}
-
-// Whether a pass is another one of the pass's aggregator.
-#[inline(always)]
-fn is_other(shape: Shape, level: u32, pass: u32, other: u32) -> bool
-    requires level { IsLevel shape level }
-    requires in_range { (pass < shape.passes) × (other < shape.passes) }
-    ensures { result ≡ is_other shape level pass other }
-{
-    other != pass && shape.aggregator_of(other, level) == shape.aggregator_of(pass, level)
 }

@@ -1,4 +1,4 @@
-use Rattle.std.proofs.Common.{◌<◌, refl, arith}
+use Rattle.std.proofs.Common.{refl, arith}
 use Rattle.fn_core.specs.declared.answer.CoreStep.TheVariants.{Ready, NotYet}
 use Rattle.fn_climb.proofs.Sofar.{sofar_none, sofar_on, sofar_along, polled, falls, falls_along}
 use Rattle.fn_climb.proofs.polling.poll_on.Goals as goal
