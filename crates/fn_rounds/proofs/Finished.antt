@@ -34,7 +34,8 @@ use Rattle.fn_rounds.specs.Script.{order_of, orders_of, call_after, reply_lines,
 use Rattle.fn_rounds.specs.Dealing.{OpensFor, lane_for, lanes_for, AreDone, answers_of, replies_of}
 use Rattle.fn_rounds.proofs.LineOrders.{no_orders, each_order, asked_within, orders_split}
 use Rattle.fn_rounds.proofs.Gathered.{answer_at}
-use Rattle.fn_rounds.proofs.InBook.{none_outside, fresh_rests, fresh_left, its_calls, as_many, its_reply}
+use Rattle.fn_table.proofs.Books.{none_outside}
+use Rattle.fn_rounds.proofs.InBook.{fresh_rests, fresh_left, its_calls, as_many, its_reply}
 
 -- lanes that had made no call have made all
 have_made : (lanes : List Lane) (views : List LaneView) (dones : List LaneDone) → AreStarted lanes views → AreAllInOrder views dones → AreDone lanes dones

@@ -21,19 +21,6 @@ use Rattle.fn_table.proofs.Glances.{glances_idle, glances_run}
 use Rattle.fn_table.specs.Claims.{past, mine, left, Rests}
 use Rattle.fn_rounds.specs.InOrder.{call_at, numbered, MetBehind, MadeInOrder}
 
--- a pass of which no call is has no own calls
-none_own : (pass : ℕ) (calls : List Call) → All (λ (c : Call). c.pass ≢ pass) calls → own pass calls ≡ []
-none_own pass [] others = refl
-none_own pass (call ∷ calls) others =
-    let test : (call.pass == pass) ≡ false = ne_eqb call.pass pass (All-head (λ (c : Call). c.pass ≢ pass) call calls others) in
-    ap (λ (b : Bool). cond b (call ∷ own pass calls) (own pass calls)) test ∙ none_own pass calls (All-tail (λ (c : Call). c.pass ≢ pass) call calls others)
-
--- a pass that isn't there makes no call
-pub none_outside : (book : CoreLog) → IsLegal book → (pass : ℕ) → book.start.shape.passes ≤ pass → own pass (calls_in book) ≡ []
-none_outside book legal pass outside =
-    let inside = calls_are_of_passes book.start book.log legal.0 legal.1 in
-    none_own pass (calls_in book) (All-weaker (λ (c : Call). c.pass < book.start.shape.passes) (λ c. c.pass ≢ pass) (λ c below is. absurd (omega (arith, below, is, outside))) (calls_in book) inside)
-
 -- a reply stays what its call meets while the history grows
 reply_later : (cap opening : ℕ) (first last : List Call) → IsPrefix first last → (call : Call) (reply : ℕ) → Meets cap opening first call reply → Meets cap opening last call reply
 reply_later cap opening first last (more, all) call reply met =

@@ -16,3 +16,4 @@ pub mod Stages
 pub mod OwnCalls
 pub mod Later
 pub mod Claims
+pub mod Books

@@ -1,30 +1,11 @@
-//! The tool: scripts of callers on one funnel.
+//! The tool: its words, its streams and its status.
 #![tactic(auto)]
 
-mod ending;
-mod handed;
-#[cfg(test)]
-mod handed_tests;
-mod lines;
-mod on_table;
-mod play;
-mod run;
-#[cfg(test)]
-mod takes_tests;
-mod telling;
-#[cfg(test)]
-mod tests;
-#[cfg(test)]
-mod trace_tests;
-mod trial;
-#[cfg(test)]
-mod trial_tests;
 mod words;
 
 use edge_io::{StdSink, StdSource};
-use replay_run::OpenGate;
-use run::{run, tell};
 use std::process::ExitCode;
+use tool_run::{OpenGate, run, tell};
 use words::gather_words;
 
 fn main(rt: HostRuntime) -> ExitCode {

@@ -1,10 +1,10 @@
 //! The words behind the program's name.
 ghost use Rattle.std.specs.Prelude.{◌≡◌, ◌≢◌, ◌⊎◌, IfErr};
 
-use crate::ending::Ending;
 use std::alloc::{AllocGlobal, Global};
 use std::env::{self, Env};
 use std::io::ErrorKind;
+use tool_run::Ending;
 
 /// The words that a program was started with, or how its run ends without them.
 pub fn gather_words<R: Env + AllocGlobal>(rt: &R, alloc: Global) -> Result<Vec<String>, Ending>

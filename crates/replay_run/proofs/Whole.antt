@@ -43,7 +43,7 @@ use Rattle.replay_run.specs.Work.{rows_in, of_worker, MayRun, MayWork, Ran, Work
 use Rattle.replay_run.proofs.Counts.{no_place, answer_of}
 use Rattle.replay_run.proofs.NoFault.{none_from, workers_there, tenants_there}
 use Rattle.replay_run.proofs.Numbered.{rows_own}
-use Rattle.replay_run.proofs.Outside.{none_outside}
+use Rattle.fn_table.proofs.Books.{none_outside}
 use Rattle.replay_run.proofs.RanAt.{Reached, RanAt, came}
 use Rattle.replay_run.proofs.Runs.{asks}
 

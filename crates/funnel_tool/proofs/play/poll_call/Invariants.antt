@@ -1,8 +1,0 @@
-use Rattle.funnel_tool.proofs.Polling.{Polls, left_steps}
-use Rattle.funnel_tool.proofs.play.poll_call.Given as goal
-
-abbrev pub invariant-loop-told : goal.invariant-loop-told
-invariant-loop-told l = Polls l.fn.core l.core l.pass
-
-abbrev pub decreases-loop-told : goal.decreases-loop-told
-decreases-loop-told l = left_steps l.core l.pass

@@ -1,7 +1,0 @@
-use Rattle.std.proofs.Common.{◌≡◌, ℕ, ◌<◌, true}
-use Rattle.funnel_tool.specs.Slots.{present}
-use Rattle.funnel_tool.specs.Trial.{rests_in}
-use Rattle.funnel_tool.proofs.trial.least_busy.Given as goal
-
-abbrev pub invariant-loop-pass : goal.invariant-loop-pass
-invariant-loop-pass l = (k : ℕ) → k < l.pass → rests_in (present l.callers) k ≡ true

@@ -1,0 +1,14 @@
+pub mod Advance
+pub mod Ended
+pub mod Followed
+pub mod InTurn
+pub mod Leaving
+pub mod OneByOne
+pub mod OneLine
+pub mod Orders
+pub mod Polled
+pub mod Polling
+pub mod Replaced
+pub mod Several
+pub mod Tracks
+pub mod WholeRun

@@ -1,0 +1,4 @@
+pub mod Handed
+pub mod Outcome
+pub mod Accounts
+pub mod Telling
