@@ -56,7 +56,7 @@ opened-fault format at amount row state =
           ])
     ]
 
-settle-cap : (format : Format) (amount : ℕ) (word : List ℕ) → cap_of format Settle 0 word ≡ cap_of format Settle amount word
+pub settle-cap : (format : Format) (amount : ℕ) (word : List ℕ) → cap_of format Settle 0 word ≡ cap_of format Settle amount word
 unfolding cap_of
 settle-cap Plain amount word = refl
 settle-cap Capped amount word = refl

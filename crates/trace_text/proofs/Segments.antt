@@ -22,7 +22,7 @@ abbrev bound_after : ℕ → ℕ → ℕ → List Row → ℕ
 bound_after tenant cap bound rows = min cap (bound + additions tenant rows)
 
 -- the bound of a tenant with what the rows of the last segment come to, counted in this way
-pub ended : (List Row → ℕ) → ℕ → ℕ → ℕ → ℕ → List Row → List Cut → ℕ
+unfoldable pub ended : (List Row → ℕ) → ℕ → ℕ → ℕ → ℕ → List Row → List Cut → ℕ
 ended count tenant cap bound before rows [] = bound + count rows
 ended count tenant cap bound before rows (cut ∷ cuts) =
     ended count tenant cap (bound_after tenant cap bound (take (cut.rows - before) rows)) cut.rows (drop (cut.rows - before) rows) cuts
@@ -49,20 +49,20 @@ CutsRise-cut before all [] last h is = (omega arith, omega arith)
 CutsRise-cut before all (cut ∷ cuts) last h is = (h.0, CutsRise-cut cut.rows all cuts last h.1 is)
 
 -- the rows after a cut
-inside : (before : ℕ) (rows : List Row) (cut : Cut) (cuts : List Cut) → CutsRise before (before + length rows) (cut ∷ cuts) → cut.rows - before ≤ length rows
+pub inside : (before : ℕ) (rows : List Row) (cut : Cut) (cuts : List Cut) → CutsRise before (before + length rows) (cut ∷ cuts) → cut.rows - before ≤ length rows
 inside before rows cut cuts h = let most = CutsRise-most cut.rows (before + length rows) cuts h.1 in omega arith
 
-behind : (before : ℕ) (rows : List Row) (cut : Cut) (cuts : List Cut) → CutsRise before (before + length rows) (cut ∷ cuts)
+pub behind : (before : ℕ) (rows : List Row) (cut : Cut) (cuts : List Cut) → CutsRise before (before + length rows) (cut ∷ cuts)
     → before + length rows ≡ cut.rows + length (drop (cut.rows - before) rows)
 behind before rows cut cuts h =
     let most = CutsRise-most cut.rows (before + length rows) cuts h.1 in let first = h.0 in omega (arith, length-drop (cut.rows - before) rows)
 
-after-cut : (before : ℕ) (rows : List Row) (cut : Cut) (cuts : List Cut) → CutsRise before (before + length rows) (cut ∷ cuts)
+pub after-cut : (before : ℕ) (rows : List Row) (cut : Cut) (cuts : List Cut) → CutsRise before (before + length rows) (cut ∷ cuts)
     → CutsRise cut.rows (cut.rows + length (drop (cut.rows - before) rows)) cuts
 after-cut before rows cut cuts h = let same = behind before rows cut cuts h in rw same at h.1
 
 -- sums with one more row
-sum-push : {X : Type 0} (f : X → ℕ) (xs : List X) (x : X) → sum_by f (xs ++ x ∷ []) ≡ sum_by f xs + f x
+pub sum-push : {X : Type 0} (f : X → ℕ) (xs : List X) (x : X) → sum_by f (xs ++ x ∷ []) ≡ sum_by f xs + f x
 sum-push f xs x = let all = sum_by-append f xs (x ∷ []) in let one = sum_by-cons f x [] in omega arith
 
 -- one more row

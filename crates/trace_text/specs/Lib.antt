@@ -15,3 +15,5 @@ pub mod Steps
 pub mod Text
 pub mod Trace
 pub mod TraceFaults
+pub mod TraceGrammar
+pub mod TraceLaws

@@ -22,7 +22,7 @@ pub use reading::{fault_laws, read_script};
 pub use scripts::{NoMemory, Order, Script, ScriptFault, ScriptLine, ScriptLines};
 pub use totals::{allowance_laws, allowances};
 pub use traces::{Cut, Name, Op, Row, Tenant, Trace, TraceFault};
-pub use tracing::{read_trace, trace_fault_laws};
+pub use tracing::{read_trace, trace_fault_laws, trace_laws};
 
 #[cfg(test)]
 mod tests;

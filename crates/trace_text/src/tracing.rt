@@ -3,10 +3,13 @@ ghost use Rattle.std.specs.Prelude.{◌≡◌, ◌≤◌, ◌<◌, ◌+◌, true
 ghost use Rattle.csv.specs.Records.{fields_of};
 ghost use Rattle.trace_text.specs.Accounts.{AreHeld};
 ghost use Rattle.trace_text.specs.Fields.{field, is_tenant};
+ghost use Rattle.trace_text.specs.Records.{records_of};
 ghost use Rattle.trace_text.specs.SoundTrace.{IsSoundTrace};
 ghost use Rattle.trace_text.specs.TraceFaults.{FirstRecordIsAtFault, NoRecordIsAtFault, RecordFaultsAreFirst};
+ghost use Rattle.trace_text.specs.TraceGrammar.{IsTrace};
+ghost use Rattle.trace_text.specs.TraceLaws.{AccountsAreCounted, GrammarIsRead, TracesAreInGrammar};
 ghost use Rattle.trace_text.specs.declared.fields.Action.TheVariants.{Open};
-ghost use Rattle.trace_text.specs.Trace.{Becomes, Gives, acted, called, content, content_of, opened, place_of, record_after, records_after, settled, start, state_of, trace_of, unnamed, within};
+ghost use Rattle.trace_text.specs.Trace.{Becomes, Content, Gives, acted, called, content, content_of, opened, place_of, record_after, records_after, settled, start, state_of, trace_of, unnamed, within};
 
 use crate::accounts::Accounts;
 use crate::fields::{
@@ -230,6 +233,8 @@ pub fn take_record(
 #[tactic(auto, unfolding(crate::specs::Trace::read_all))]
 pub fn read_trace(alloc: Global, workers: u32, bytes: &[u8]) -> Result<Trace, TraceFault>
     requires { 1 ≤ workers × (workers ≤ 64) }
+    ensures found { IfOk result (λ trace. IsTrace workers (records_of bytes.now) (content trace)) }
+    ensures only { (trace : Content) → IsTrace workers (records_of bytes.now) trace → Gives content result (Ok trace) }
     ensures exact { Gives content result (trace_of workers bytes.now) }
     ensures sound { IfOk result (λ trace. IsSoundTrace workers (content trace)) }
 {
@@ -252,6 +257,14 @@ pub fn trace_fault_laws()
     ensures record_faults_are_first { RecordFaultsAreFirst }
     ensures first_record_is_at_fault { FirstRecordIsAtFault }
     ensures no_record_is_at_fault { NoRecordIsAtFault }
+{}
+
+/// What is read is in the grammar, what is in the grammar is read, and the sums of each tenant
+/// are counted as the rows and cuts before say.
+pub fn trace_laws()
+    ensures traces_are_in_grammar { TracesAreInGrammar }
+    ensures grammar_is_read { GrammarIsRead }
+    ensures accounts_are_counted { AccountsAreCounted }
 {}
 
 // Reads the records after the first one, with room for so many rows to begin with.
