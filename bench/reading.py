@@ -2,7 +2,7 @@
 """How much a reader must believe to accept a public contract: the definitions that it cites, and all that these cite.
 
     reading.py [--words NAME,..] FILE.rt FUNCTION [CLAUSE..]      with clauses, only those
-    reading.py crates/funnel_tool/src/run.rt run ends
+    reading.py crates/tool_run/src/runs.rt run ends
     reading.py --words past,mine,left,Rests crates/fn_funnel/src/waiting.rt add made
 
 FUNCTION may be Type::function. Counted are the lines of definitions in the repository's specs/ that are neither blank nor

@@ -7,7 +7,7 @@ claim() { # what is called, and then what reading.py is asked
     shift
     printf '%-32s %s\n' "$name" "$(python3 bench/reading.py --words past,mine,left,Rests,calls_in,history "$@" | tail -1)"
 }
-claim "run, all commands" crates/funnel_tool/src/run.rt run ends
+claim "run, all commands" crates/tool_run/src/runs.rt run ends
 claim "replay" crates/replay_run/src/replaying.rt replay told
 claim "add" crates/fn_funnel/src/waiting.rt add made
 claim "AddFuture::poll" crates/fn_future/src/single.rt AddFuture::poll made

@@ -218,7 +218,7 @@ first-found workers burst text found small h =
     let s = stops-at workers burst 1 burst text found h in
     record { front = s.0; line = s.1; rest = s.2; items = s.3; whole = s.4; before = takes-spelled workers burst s.0 s.3 small s.5; at_fault = s.6 }
 
-first-told : (workers burst : ℕ) (text : List (List ℕ)) (found : ThrottleFault) → IsFirstFault workers burst text found → lines_of workers burst 1 burst text ≡ Err found
+pub first-told : (workers burst : ℕ) (text : List (List ℕ)) (found : ThrottleFault) → IsFirstFault workers burst text found → lines_of workers burst 1 burst text ≡ Err found
 first-told workers burst text found s =
     rw s.whole (refused-later workers burst 1 burst s.front s.items (s.line ∷ s.rest) found (takes-read workers burst s.front s.items s.before)
     (refused-here workers burst (1 + length s.front) (burst + sum_by (cost burst) s.items) s.line s.rest found s.at_fault))

@@ -7,7 +7,7 @@
 --     IsServed, IsThrottled      the answers to a worker's lines, and to all
 --     IsBookOf workers burst book      the bucket opened full, at the moment 0
 --     TellsThrottle, TellsText      the text of lines, and of what bytes say
-use Rattle.std.specs.Prelude.{◌≡◌, ⊤, ℕ, zero, suc, ◌+◌, ◌-◌, ◌/◌, ◌<◌, ◌==◌, min, max, List, [], ◌∷◌, ◌++◌, length, map, filter, All, Ok, codes, decimal, if◌then◌else◌}
+use Rattle.std.specs.Prelude.{◌≡◌, ⊤, ℕ, zero, suc, ◌+◌, ◌-◌, ◌/◌, ◌<◌, ◌==◌, min, max, List, [], ◌∷◌, ◌++◌, length, map, filter, All, codes, decimal, if◌then◌else◌}
 use Rattle.std.specs.List.{zip}
 use Rattle.fn_model.specs.declared.Call.{Call}
 use Rattle.fn_model.specs.declared.Kind.{Kind}
@@ -25,7 +25,6 @@ use Rattle.quota_bucket.specs.Closed.{BucketLog}
 use Rattle.quota_bucket.specs.Refill.{refill}
 use Rattle.throttle_run.specs.declared.lines.ThrottleLine.{ThrottleLine}
 use Rattle.throttle_run.specs.Grammar.{SpellsTakes}
-use Rattle.throttle_run.specs.Lines.{throttle_of}
 
 -- the lines of a worker, in order
 abbrev pub lines_of : ℕ → List ThrottleLine → List ThrottleLine
@@ -117,9 +116,8 @@ pub record TellsThrottle (workers burst rate period : ℕ) (lines : List Throttl
   pub throttled : IsThrottled workers burst rate period lines answers tokens ticks
   pub text : bytes ≡ lines_text lines answers ++ last_text (reach 0 ticks) (value burst burst tokens)
 
--- The text tells of the takes that the lines of the bytes say, which are what the bytes are read as
+-- The text tells of the takes that the lines of the bytes say
 pub record TellsText (workers burst rate period : ℕ) (bytes text : List ℕ) (tokens : List Call) (ticks : List Entry) : Type 0 where
   pub takes : List ThrottleLine
   pub spelled : SpellsTakes workers burst (lines bytes) takes
-  pub read : throttle_of workers burst bytes ≡ Ok takes
   pub told : TellsThrottle workers burst rate period takes text tokens ticks

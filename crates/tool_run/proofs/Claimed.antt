@@ -3,6 +3,8 @@ use Rattle.std.proofs.Common.{ℕ, List, map, ap}
 use Rattle.fn_core.specs.Calls.{calls_in}
 use Rattle.replay_run.specs.Replay.{value_in}
 use Rattle.quota_bucket.specs.Closed.{history}
+use Rattle.trace_text.specs.Records.{records_of}
+use Rattle.trace_text.proofs.Said.{traces-in_grammar}
 use Rattle.tool_words.specs.declared.commands.Command.{Command}
 use Rattle.tool_words.specs.declared.commands.Command.TheVariants.{Play, Trial, Replay, Drill, Relay, Rounds, Tally, Throttle}
 use Rattle.tool_run.specs.Accounts.{Accounts}
@@ -20,7 +22,7 @@ tells Trial bytes text handed a =
     let ran = a.3.1 in
     (a.0, a.2, (a.3.0, value no_cap a.0.opening (calls_in a.1), calls_in a.1, ran.told, a.3.2), ap (λ (h : HandedBack). h.answers) a.4)
 tells (Replay workers) bytes text handed a =
-    (a.0, map value_in handed.books, a.1, a.2.1, a.2.2)
+    (a.0, map value_in handed.books, traces-in_grammar workers (records_of bytes) a.0 a.1, a.2.1, a.2.2)
 tells (Drill seed rows workers) bytes text handed a =
     (map value_in handed.books, a.0.1, a.1)
 tells (Relay workers capacity) bytes text handed a =

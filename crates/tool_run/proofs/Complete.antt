@@ -7,6 +7,11 @@ use Rattle.running.specs.Running.{numbers_from, upto}
 use Rattle.trace_text.specs.Script.{content, script_of}
 use Rattle.trace_text.specs.declared.scripts.Script.{Script}
 use Rattle.trace_text.specs.declared.scripts.ScriptLine.{ScriptLine}
+use Rattle.trace_text.specs.Text.{lines}
+use Rattle.trace_text.specs.Records.{records_of}
+use Rattle.trace_text.proofs.Heard.{grammar-read}
+use Rattle.throttle_run.proofs.ReadingSpelled.{takes-read}
+use Rattle.throttle_run.proofs.ReadingFaults.{first-told}
 use Rattle.fn_rounds.specs.Script.{IsChangeOrder, other_order}
 use Rattle.tool_words.specs.declared.commands.Command.{Command}
 use Rattle.tool_words.specs.declared.commands.Command.TheVariants.{Play, Trial, Replay, Drill, Relay, Rounds, Tally, Throttle}
@@ -99,7 +104,7 @@ replay-accepts : (workers : ℕ) (bytes : List ℕ) (why : Refusal) → IsAccept
 replay-accepts workers bytes TooLong accepted refuses = refuses
 replay-accepts workers bytes (ByScript fault) accepted refuses = refuses
 replay-accepts workers bytes (ByPlay fault) accepted refuses = refuses
-replay-accepts workers bytes (ByTrace fault) accepted refuses = cc (sym accepted.1 ∙ refuses)
+replay-accepts workers bytes (ByTrace fault) accepted refuses = cc (sym (grammar-read workers (records_of bytes) accepted.0 accepted.1) ∙ refuses)
 replay-accepts workers bytes (TooManyLines at) accepted refuses = refuses
 replay-accepts workers bytes (ByOrder at) accepted refuses = refuses
 replay-accepts workers bytes (ByThrottle fault) accepted refuses = refuses
@@ -137,7 +142,7 @@ throttle-accepts workers burst rate period bytes (ByPlay fault) accepted refuses
 throttle-accepts workers burst rate period bytes (ByTrace fault) accepted refuses = refuses
 throttle-accepts workers burst rate period bytes (TooManyLines at) accepted refuses = refuses
 throttle-accepts workers burst rate period bytes (ByOrder at) accepted refuses = refuses
-throttle-accepts workers burst rate period bytes (ByThrottle fault) accepted refuses = cc (sym accepted.1 ∙ refuses.1)
+throttle-accepts workers burst rate period bytes (ByThrottle fault) accepted refuses = cc (sym (takes-read workers burst (lines bytes) accepted.0 accepted.1) ∙ first-told workers burst (lines bytes) fault refuses)
 
 -- a command that accepts its input isn't refused for another reason
 not-refused : (command : Command) (input : Input) (why : Refusal) → Accepts command input.left → IsOther why → Way command input why → ⊥
@@ -207,7 +212,7 @@ ends-done asked input output outcome (Refused why) command ends account is accep
     let same = some-same stops.0 command asked stops.1 is in
     let P : Command → Type 0 = λ c. IsRefused c input why in
     absurd (refused-not asked input why outcome.halted.items command is accepts (subst P same stops.2) account.0 none)
-ends-done asked input output outcome ReadFailed command ends account is accepts calm none = absurd (calm.0 ends.0.3)
+ends-done asked input output outcome ReadFailed command ends account is accepts calm none = absurd (calm.0 ends.0.4)
 ends-done asked input output outcome WriteFailed command ends account is accepts calm none = absurd (calm.1 ends.6.1)
 ends-done asked input output outcome WriteStuck command ends account is accepts calm none = absurd (calm.2 ends.6.1)
 ends-done asked input output outcome NoMemory command ends account is accepts calm none = inr refl

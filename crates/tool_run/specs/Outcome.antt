@@ -18,6 +18,8 @@ use Rattle.quota_pool.specs.declared.moved.Moved.{Moved}
 use Rattle.trace_text.specs.Drill.{drill, drill_rows, total_taken}
 use Rattle.trace_text.specs.Script.{script_of, content}
 use Rattle.trace_text.specs.Trace.{Content, added, trace_of}
+use Rattle.trace_text.specs.TraceGrammar.{IsTrace}
+use Rattle.trace_text.specs.Records.{records_of}
 use Rattle.trace_text.specs.declared.scripts.Script.{Script}
 use Rattle.trace_text.specs.declared.scripts.ScriptFault.{ScriptFault}
 use Rattle.trace_text.specs.declared.scripts.ScriptFault.TheVariants as script
@@ -30,7 +32,7 @@ use Rattle.fn_rounds.specs.Script.{IsChangeOrder, TellsRounds, other_order}
 use Rattle.fn_spread.specs.Tally.{draws_in, newlines_in, tally_line}
 use Rattle.tick_table.specs.declared.entry.Entry.{Entry}
 use Rattle.throttle_run.specs.Faults.{IsFirstFault}
-use Rattle.throttle_run.specs.Lines.{throttle_of}
+use Rattle.throttle_run.specs.Grammar.{SpellsTakes}
 use Rattle.throttle_run.specs.Throttled.{TellsText}
 use Rattle.throttle_run.specs.declared.faults.ThrottleFault.{ThrottleFault}
 use Rattle.throttle_run.specs.declared.faults.ThrottleFault.TheVariants as takes
@@ -90,6 +92,10 @@ ReadsNothing input = (input.left_then ≡ input.left) × (input.faults_then ≡ 
 abbrev pub ReadsAll : Input → List ℕ → Type 0
 ReadsAll input bytes = Consumes input.left input.left_then bytes × IsAtEnd input.left_then × (length bytes ≤ INPUT_LIMIT)
 
+-- the source gave some bytes, no more than may be read
+abbrev pub ReadsSome : Input → Type 0
+ReadsSome input = (bytes : List ℕ) × Consumes input.left input.left_then bytes × (length bytes ≤ INPUT_LIMIT)
+
 -- whether a command has input: a drill has none
 abbrev pub HasInput : Command → Type 0
 HasInput (Drill seed rows workers) = ⊥
@@ -132,7 +138,7 @@ IsRelayed workers capacity lines text book = IsRelay workers capacity (length li
 abbrev pub Tells : Command → List ℕ → List ℕ → List Moved → Type 0
 Tells Play bytes text answers = (s : Script) × (script_of bytes ≡ Ok (content s)) × TellsInTurn s text × (answers ≡ [])
 Tells Trial bytes text answers = (s : Script) × (script_of bytes ≡ Ok (content s)) × TellsScript s text × (answers ≡ [])
-Tells (Replay workers) bytes text answers = (t : Content) × (finals : List ℕ) × (trace_of workers bytes ≡ Ok t) × TellsReplay t answers finals × (text ≡ report_text t answers finals)
+Tells (Replay workers) bytes text answers = (t : Content) × (finals : List ℕ) × IsTrace workers (records_of bytes) t × TellsReplay t answers finals × (text ≡ report_text t answers finals)
 Tells (Drill seed rows workers) bytes text answers = (finals : List ℕ) × TellsReplay (drill seed rows workers) answers finals × (text ≡ drill_line seed rows workers)
 Tells (Relay workers capacity) bytes text answers = (book : BookView ℕ) × (length (lines_of bytes) ≤ MOST_LINES) × IsRelayed workers capacity (lines_of bytes) text book × (answers ≡ [])
 Tells Rounds bytes text answers = (s : Script) × (history : List Call) × (script_of bytes ≡ Ok (content s)) × HasChanges s × TellsRounds s text history × (answers ≡ [])
@@ -163,7 +169,7 @@ RefusesOrders bytes _ = ⊥
 
 -- why bytes are no text of takes: the first fault of the first line that is at fault is told
 abbrev pub RefusesTakes : ℕ → ℕ → List ℕ → Refusal → Type 0
-RefusesTakes workers burst bytes (ByThrottle fault) = IsFirstFault workers burst (lines bytes) fault × (throttle_of workers burst bytes ≡ Err fault)
+RefusesTakes workers burst bytes (ByThrottle fault) = IsFirstFault workers burst (lines bytes) fault
 RefusesTakes workers burst bytes _ = ⊥
 
 -- why a command can't have its text
@@ -186,7 +192,7 @@ IsRefused command input why = (bytes : List ℕ) × Reads command input bytes ×
 abbrev pub Stops : Option Command → Input → Ending → Type 0
 Stops asked input Words = (asked ≡ None) × ReadsNothing input
 Stops asked input (Refused why) = (command : Command) × (asked ≡ Some command) × IsRefused command input why
-Stops asked input ReadFailed = (command : Command) × (asked ≡ Some command) × HasInput command × Rose input.faults input.faults_then
+Stops asked input ReadFailed = (command : Command) × (asked ≡ Some command) × HasInput command × ReadsSome input × Rose input.faults input.faults_then
 Stops asked input NoMemory = Unit {0}
 Stops asked input _ = ⊥
 
@@ -210,12 +216,12 @@ Ends asked input output answers ending = HasNoText asked input output answers en
 abbrev pub IsAccepted : Command → List ℕ → Type 0
 IsAccepted Play bytes = (s : Script) × (text : List ℕ) × (script_of bytes ≡ Ok (content s)) × (play_text s ≡ Ok text)
 IsAccepted Trial bytes = (s : Script) × (script_of bytes ≡ Ok (content s))
-IsAccepted (Replay workers) bytes = (t : Content) × (trace_of workers bytes ≡ Ok t)
+IsAccepted (Replay workers) bytes = (t : Content) × IsTrace workers (records_of bytes) t
 IsAccepted (Drill seed rows workers) bytes = Unit {0}
 IsAccepted (Relay workers capacity) bytes = length (lines_of bytes) ≤ MOST_LINES
 IsAccepted Rounds bytes = (s : Script) × (script_of bytes ≡ Ok (content s)) × HasChanges s
 IsAccepted (Tally workers grain) bytes = Unit {0}
-IsAccepted (Throttle workers burst rate period) bytes = (items : List ThrottleLine) × (throttle_of workers burst bytes ≡ Ok items)
+IsAccepted (Throttle workers burst rate period) bytes = (items : List ThrottleLine) × SpellsTakes workers burst (lines bytes) items
 
 -- a command finds no fault in what a source has left
 abbrev pub Accepts : Command → Option (List ℕ) → Type 0

@@ -10,7 +10,7 @@ use Rattle.trace_text.specs.declared.scripts.Script.{Script}
 use Rattle.tool_words.specs.declared.commands.Command.{Command}
 use Rattle.tool_run.specs.Handed.{handed, handed_by, nothing, one_book}
 use Rattle.tool_run.specs.Accounts.{Accounts, RefusesWith, StopsWith}
-use Rattle.tool_run.specs.Outcome.{Input, Output, Reads, ReadsAll, Refuses, Stops, Writes, WritesNothing}
+use Rattle.tool_run.specs.Outcome.{Input, Output, Reads, ReadsAll, ReadsSome, Refuses, Stops, Writes, WritesNothing}
 use Rattle.tool_run.specs.declared.ending.Ending.{Ending}
 use Rattle.tool_run.specs.declared.ending.Ending.TheVariants.{Refused, ReadFailed, NoMemory}
 use Rattle.tool_run.specs.declared.ending.Refusal.TheVariants.{TooLong, ByScript}
@@ -50,7 +50,7 @@ IsTelling command bytes (Err untold) = CantTell command bytes untold.ending unto
 -- input that wasn't read
 abbrev pub CantRead : Input → Ending → Type 0
 CantRead input (Refused TooLong) = (bytes : List ℕ) × Consumes input.left input.left_then bytes × (INPUT_LIMIT < length bytes)
-CantRead input ReadFailed = Rose input.faults input.faults_then
+CantRead input ReadFailed = ReadsSome input × Rose input.faults input.faults_then
 CantRead input NoMemory = Unit {0}
 CantRead input _ = ⊥
 
