@@ -78,3 +78,4 @@ pub mod Orders
 pub mod HeldBases
 pub mod Offsets
 pub mod Needs
+pub mod GoneUp

@@ -23,7 +23,7 @@ use Rattle.fn_core.proofs.Laws.{holds}
 use Rattle.fn_core.proofs.Steps.{events_are_steps}
 
 -- only a publish takes a step that publishes
-publish_alone : (start : Start) (s : State) (p : ℕ) (move : Move) (kind : Kind) (level : ℕ) (step : local_step.Step) (m : ℕ) → IsStepOf start s p move kind level step → step ≡ local_step.Publish m → (move ≡ Publish kind level) × (m ≡ member start.shape level p)
+pub publish_alone : (start : Start) (s : State) (p : ℕ) (move : Move) (kind : Kind) (level : ℕ) (step : local_step.Step) (m : ℕ) → IsStepOf start s p move kind level step → step ≡ local_step.Publish m → (move ≡ Publish kind level) × (m ≡ member start.shape level p)
 publish_alone start s p (Scan k l other) kind level step m is e = absurd (cc (is.2, e))
 publish_alone start s p (See k l) kind level step m is e = absurd (cc (is.2, e))
 publish_alone start s p (Announce k l) kind level step m is e = absurd (cc (is.2, e))

@@ -98,7 +98,8 @@ module _ (start : Start) (s : State) (p : ℕ) where
         ]
       ]
 
-  taken : (move : Move) → May start s p move → Taken move (moves start s p move)
+  -- after an event
+  pub taken : (move : Move) → May start s p move → Taken move (moves start s p move)
   taken (Scan kind level other) may = one_taken (Scan kind level other) kind level (λ m. local_step.Scan m (member start.shape level other)) (refl, refl, refl)
   taken (See kind level) may = one_taken (See kind level) kind level (λ m. local_step.See m) (refl, refl, refl)
   taken (Announce kind level) may = one_taken (Announce kind level) kind level (λ m. local_step.Announce m) (refl, refl, refl)

@@ -20,3 +20,4 @@ pub mod Entries
 pub mod Orders
 pub mod Offsets
 pub mod Needs
+pub mod GoneUp

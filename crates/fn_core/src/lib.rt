@@ -6,6 +6,7 @@ ghost use Rattle.fn_core.specs.Laws.{RowsAreLawful, RowsHaveNames, FreeRowsStay,
 ghost use Rattle.fn_core.specs.Laws.{EventsAreLocal, GuardsStay, NextIsOwn, EventsAreSteps, PositionsFit, CallsAlwaysGoOn, StepsRunOut, CallsAreShort, OthersCostNothing};
 ghost use Rattle.fn_core.specs.Trees.{TreesStand, OneStepAnEvent};
 ghost use Rattle.fn_core.specs.Offsets.{TotalsAreSums, PassesStandAtOffsets, OffsetsAreApart};
+ghost use Rattle.fn_core.specs.GoneUp.{PublishedHaveGoneUp};
 ghost use Rattle.fn_core.specs.Needs.{ScansAreEnough, UnneededRowsStay};
 ghost use Rattle.fn_core.specs.Entries.{EntriesStay, NoCallEntersTwice, DirectCallsAreAlone, FunnelledCallsAreBatched};
 ghost use Rattle.fn_core.specs.Orders.{LogsArePartedAndJoined, RunsGoOn, HistoriesGoOn, CallsAreOfPasses, RestingPassesHaveNoCall, StepsLeave, OwnCallsLeave, BeginningsLeave, FaultlessStartsAreStarts};
@@ -120,11 +121,12 @@ pub fn words_are_small()
     ensures additions { AdditionsAddAll }
 {}
 
-/// The batches of each aggregator go up one behind the other, and the first call of each meets its base, from the step that gives the base to its delegate.
+/// The batches of each aggregator go up one behind the other, and are the published ones and at most one more. The first call of each meets its base, from the step that gives the base to its delegate.
 pub fn batches_follow()
     ensures batches { BatchesFollow }
     ensures bases { BasesAreRight }
     ensures held { HeldBasesAreRight }
+    ensures published { PublishedHaveGoneUp }
 {}
 
 /// The word of each aggregator is the sum of what has arrived there. Who has arrived and has no reply yet stands among the arrivals at its offset, which no other arrival has.

@@ -1,6 +1,7 @@
 use Rattle.fn_core.proofs.Laws.{batches_follow}
 use Rattle.fn_core.proofs.Grows.{bases_are_right}
 use Rattle.fn_core.proofs.HeldBases.{held_bases_are_right}
+use Rattle.fn_core.proofs.GoneUp.{published_have_gone_up}
 use Rattle.fn_core.proofs.batches_follow.Goals as goal
 
 pub returns-clause-batches : goal.returns-clause-batches
@@ -11,3 +12,6 @@ returns-clause-bases c = bases_are_right
 
 pub returns-clause-held : goal.returns-clause-held
 returns-clause-held c = held_bases_are_right
+
+pub returns-clause-published : goal.returns-clause-published
+returns-clause-published c = published_have_gone_up
