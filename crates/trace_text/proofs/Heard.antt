@@ -1,21 +1,20 @@
--- What is in the grammar of traces is read, and the sums of each tenant are counted as it says.
-use Rattle.std.proofs.Common.{rules, tests, ◌≡◌, ℕ, ◌+◌, ◌<◌, ◌≤◌, true, false, List, [], ◌∷◌, ◌++◌, length, map, set, get_or, Some, Result, Ok, refl, sym, ap, ◌∙◌, arith, subst, length-append}
+-- What is in the grammar of traces is read.
+use Rattle.std.proofs.Common.{rules, tests, ◌≡◌, ℕ, ◌+◌, ◌<◌, ◌≤◌, true, false, List, [], ◌∷◌, ◌++◌, length, map, set, Some, Result, Ok, refl, sym, ap, arith, subst, length-append}
 use Rattle.std.specs.Prelude.{◌==◌, nat_le, nat_lt}
 use Rattle.std.proofs.lemmas.Bool.{eq-eqb}
 use Rattle.std.proofs.lemmas.List.{length-map}
 use Rattle.trace_text.proofs.Before.{adds-apart, adds-rises, said-within}
 use Rattle.trace_text.proofs.FirstFaults.{settle-cap}
-use Rattle.trace_text.proofs.LastSegment.{StaysBelow-last, ended-last}
+use Rattle.trace_text.proofs.LastSegment.{StaysBelow-last}
 use Rattle.trace_text.proofs.Named.{AreApart, found-named, nowhere-new, tenant-at, tenants_of}
-use Rattle.trace_text.proofs.Said.{records-sound, tenants-called, tenants-opened, tenants-settled}
+use Rattle.trace_text.proofs.Said.{tenants-called, tenants-opened, tenants-settled}
 use Rattle.trace_text.proofs.Segments.{cost, ended-row}
 use Rattle.trace_text.proofs.SoundSteps.{IsSoundState, sound-start, sound-step}
 use Rattle.trace_text.specs.Fields.{cap_of, field, width}
 use Rattle.trace_text.specs.Records.{records_of}
-use Rattle.trace_text.specs.SoundTrace.{additions, amounts}
 use Rattle.trace_text.specs.Trace.{Content, Gives, State, content, account_after, account_at, account_of, account_settled, acted, called, content_of, no_account, opened, read_all, record_after, records_after, settled, spent, start, trace_of, unnamed, within}
 use Rattle.trace_text.specs.TraceGrammar.{Adds, IsNamed, IsNew, IsTrace, IsWithin, SayAll, Says}
-use Rattle.trace_text.specs.TraceLaws.{AccountsAreCounted, GrammarIsRead}
+use Rattle.trace_text.specs.TraceLaws.{GrammarIsRead}
 use Rattle.trace_text.specs.declared.fields.Action.{Action}
 use Rattle.trace_text.specs.declared.fields.Action.TheVariants.{Open, Settle, Call}
 use Rattle.trace_text.specs.declared.fields.Format.{Format}
@@ -138,7 +137,7 @@ records-from format workers at (row ∷ rest) state after limit sound apart w sa
     (subst (λ (c : Content). SayAll format workers (at + 1) rest c after) (sym step.2) said.2) in
     (later.0, rw step.1 later.1, later.2)
 
-read_all-from : (workers : ℕ) (records : List (List (List ℕ))) (trace : Content) → IsTrace workers records trace → (state : State) × (read_all workers records ≡ Ok state) × (content_of state ≡ trace)
+pub read_all-from : (workers : ℕ) (records : List (List (List ℕ))) (trace : Content) → IsTrace workers records trace → (state : State) × (read_all workers records ≡ Ok state) × (content_of state ≡ trace)
 unfolding read_all
 read_all-from workers records trace t =
     let limit = t.limit in
@@ -154,13 +153,3 @@ grammar-read workers records trace t =
 pub gives-only : (workers : ℕ) (bytes : List ℕ) (result : Result Trace TraceFault) → Gives content result (trace_of workers bytes) → (trace : Content) → IsTrace workers (records_of bytes) trace
     → Gives content result (Ok trace)
 gives-only workers bytes result h trace t = rw (grammar-read workers (records_of bytes) trace t) at h
-
--- accounts have what the last segment comes to
-pub accounts-counted : AccountsAreCounted
-accounts-counted format workers records state h i d less =
-    let account = get_or state.accounts i d in
-    let agrees = (records-sound format workers records state h).agree i d less in
-    record {
-      reach = agrees.reach ∙ ended-last (additions i) i account.tenant.cap account.tenant.opening 0 state.rows state.cuts;
-      used = agrees.used ∙ ended-last (amounts i) i account.tenant.cap account.tenant.opening 0 state.rows state.cuts;
-    }

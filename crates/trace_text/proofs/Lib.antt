@@ -5,9 +5,11 @@ pub mod Cells
 pub mod Cutting
 pub mod DrillSums
 pub mod FirstFaults
+pub mod HeaderFaults
 pub mod Heard
 pub mod InPlace
 pub mod InTurn
+pub mod Known
 pub mod LastSegment
 pub mod Moves
 pub mod Named
@@ -20,3 +22,4 @@ pub mod SoundSteps
 pub mod Spelled
 pub mod Turns
 pub mod Whole
+pub mod WholeRefused

@@ -53,7 +53,7 @@ kept-if : (b : Bool) (m n : ℕ) → (if b then Some m else None) ≡ Some n →
 kept-if true m n h = (refl, cc)
 kept-if false m n h = cc
 
-pub kept-some : (test : ℕ → Bool) (o : Option ℕ) (n : ℕ) → kept test o ≡ Some n → (o ≡ Some n) × (test n ≡ true)
+kept-some : (test : ℕ → Bool) (o : Option ℕ) (n : ℕ) → kept test o ≡ Some n → (o ≡ Some n) × (test n ≡ true)
 kept-some test None n h = cc
 kept-some test (Some m) n h =
     let was = kept-if (test m) m n h in
@@ -68,11 +68,11 @@ unfolding worker_of
 worker_of-some workers word n h = lt-true n workers (kept-some (λ m. nat_lt m workers) (number word) n h).1
 
 -- an amount that was read is that of its action
-pub amount_of-opening : (word : List ℕ) (n : ℕ) → amount_of Open word ≡ Some n → n ≤ MOST_NUMBER
+amount_of-opening : (word : List ℕ) (n : ℕ) → amount_of Open word ≡ Some n → n ≤ MOST_NUMBER
 unfolding amount_of
 amount_of-opening word n h = number-bound word n h
 
-pub amount_of-call : (op : Op) (word : List ℕ) (n : ℕ) → amount_of (Call op) word ≡ Some n → IsAmount op n
+amount_of-call : (op : Op) (word : List ℕ) (n : ℕ) → amount_of (Call op) word ≡ Some n → IsAmount op n
 unfolding amount_of
 amount_of-call Read word n h = eq-true n 0 (kept-some (λ m. m == 0) (number word) n h).1
 amount_of-call Add word n h = lt-true 0 n (kept-some (λ m. nat_lt 0 m) (number word) n h).1
@@ -80,7 +80,7 @@ amount_of-call Take word n h = lt-true 0 n (kept-some (λ m. nat_lt 0 m) (number
 amount_of-call Direct word n h = lt-true 0 n (kept-some (λ m. nat_lt 0 m) (number word) n h).1
 
 -- a cap that was read isn't below the opening
-pub cap_of-opening : (format : Format) (opening : ℕ) (word : List ℕ) (cap : ℕ) → opening ≤ MOST_NUMBER → cap_of format Open opening word ≡ Some cap
+cap_of-opening : (format : Format) (opening : ℕ) (word : List ℕ) (cap : ℕ) → opening ≤ MOST_NUMBER → cap_of format Open opening word ≡ Some cap
     → (opening ≤ cap) × (cap ≤ MOST_NUMBER)
 unfolding cap_of
 cap_of-opening Plain opening word cap small h = let same : MOST_NUMBER ≡ cap = cc in rw (← same) (small, omega arith)
@@ -89,7 +89,7 @@ cap_of-opening Capped opening word cap small h =
     (le-true opening cap was.1, number-bound word cap was.0)
 
 -- a record and what it makes room for are within their limits
-pub within-ok : (at : ℕ) (room : Bool) (u : Unit {0}) → within at room ≡ Ok u → (at ≤ MOST_RECORDS) × (room ≡ true)
+within-ok : (at : ℕ) (room : Bool) (u : Unit {0}) → within at room ≡ Ok u → (at ≤ MOST_RECORDS) × (room ≡ true)
 unfolding within
 within-ok at room u h =
     let was = guard_ok (nat_le at MOST_RECORDS && room) tt u (fault.TooMany at) h in

@@ -151,7 +151,7 @@ line_faults-first passes at (pass ∷ []) = refl
 line_faults-first passes at (pass ∷ name ∷ more) = verb-fault passes at pass (verb_of name) more
 
 -- a reading that was refused was so in its first part or in the rest
-bind_err : {A B : Type 0} (r : Result A ScriptFault) (f : A → Result B ScriptFault) (e : ScriptFault) → (r >>= f) ≡ Err e
+pub bind_err : {A B : Type 0} (r : Result A ScriptFault) (f : A → Result B ScriptFault) (e : ScriptFault) → (r >>= f) ≡ Err e
     → (r ≡ Err e) ⊎ ((x : A) × (r ≡ Ok x) × (f x ≡ Err e))
 bind_err (Ok x) f e h = inr (x, refl, h)
 bind_err (Err d) f e h = inl cc
@@ -161,7 +161,7 @@ at-place : (passes at total place sum : ℕ) (line : List ℕ) (found : ScriptFa
     → IsAtFault passes at total line found → IsAtFault passes place sum line found
 at-place passes at total place sum line found p s h = rw (p, s) h
 
-within_limit-err : (at : ℕ) (found : ScriptFault) → within_limit at ≡ Err found → (MOST_LINES < at) × (found ≡ fault.TooMany at)
+pub within_limit-err : (at : ℕ) (found : ScriptFault) → within_limit at ≡ Err found → (MOST_LINES < at) × (found ≡ fault.TooMany at)
 unfolding within_limit
 within_limit-err at found h =
     elim (cases_Bool (nat_lt MOST_LINES at)) [
@@ -169,7 +169,7 @@ within_limit-err at found h =
       | inr within ↦ absurd (let e = rw within at h in cc)
     ]
 
-total_with-err : (at total : ℕ) (item : ScriptLine) (found : ScriptFault) → total_with at total (Some item) ≡ Err found
+pub total_with-err : (at total : ℕ) (item : ScriptLine) (found : ScriptFault) → total_with at total (Some item) ≡ Err found
     → (MOST_NUMBER < total + amount item.order) × (found ≡ fault.Total at)
 unfolding total_with
 total_with-err at total item found h =

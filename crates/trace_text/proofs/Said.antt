@@ -144,7 +144,7 @@ within-sound workers state sound =
     let whole = sound-trace workers state sound in
     record { tenants = whole.few; cuts = whole.cuts_few; sums = whole.below }
 
-read_all-said : (workers : ℕ) (records : List (List (List ℕ))) (state : State) → read_all workers records ≡ Ok state → IsTrace workers records (content_of state)
+pub read_all-said : (workers : ℕ) (records : List (List (List ℕ))) (state : State) → read_all workers records ≡ Ok state → IsTrace workers records (content_of state)
 unfolding read_all
 read_all-said workers [] state h = cc
 read_all-said workers (first ∷ rest) state h =

@@ -180,7 +180,7 @@ total_with-below : (at total sum : ℕ) (read : Option ScriptLine) → total ≤
 total_with-below at total sum None below h = let same = total_with-none at total sum h in omega arith
 total_with-below at total sum (Some line) below h = total_with-bound at total sum line h
 
-lines_of-sound : (passes at total : ℕ) (text : List (List ℕ)) (items : List ScriptLine) → total ≤ MOST_NUMBER
+pub lines_of-sound : (passes at total : ℕ) (text : List (List ℕ)) (items : List ScriptLine) → total ≤ MOST_NUMBER
     → lines_of passes at total text ≡ Ok items → AreSoundLines passes at total items
 unfolding lines_of
 lines_of-sound passes at total [] items below h =
@@ -220,7 +220,7 @@ shaped-opening : (passes leaves levels rows opening : ℕ) (header : Header) →
 unfolding shaped
 shaped-opening passes leaves levels rows opening header h = header_or-opening _ _ header h
 
-header_of-bound : (at : ℕ) (all : List (List ℕ)) (header : Header) → header_of at all ≡ Ok header → header.opening ≤ MOST_NUMBER
+pub header_of-bound : (at : ℕ) (all : List (List ℕ)) (header : Header) → header_of at all ≡ Ok header → header.opening ≤ MOST_NUMBER
 unfolding header_of
 header_of-bound at all header h =
     let named = bind_ok (after_funnel at all) _ header h in

@@ -54,7 +54,7 @@ pass_of-is passes at word q h =
     let less = lt-true was.0 passes below.0 in
     rw (← below.1) (found, less)
 
-true-lt : (m n : ℕ) → m < n → nat_lt m n ≡ true
+pub true-lt : (m n : ℕ) → m < n → nat_lt m n ≡ true
 true-lt m n h = search (rules, tests)
 
 pass_of-from : (passes at : ℕ) (word : List ℕ) (q : ℕ) → number word ≡ Some q → q < passes → pass_of passes at (Some word) ≡ Ok q

@@ -32,7 +32,7 @@ line-is passes at line rest (Some item) items more was same after =
     let spelled = line_of-is passes at (words line) item was in
     inr (item, more, same, spelled.0, spelled.1, after)
 
-false-lt : (m n : ℕ) → n ≤ m → nat_lt m n ≡ false
+pub false-lt : (m n : ℕ) → n ≤ m → nat_lt m n ≡ false
 false-lt m n h = search (rules, tests)
 
 lines_of-nothing : (passes at total : ℕ) → lines_of passes at total [] ≡ Ok []
@@ -40,7 +40,7 @@ unfolding lines_of
 lines_of-nothing passes at total = refl
 
 -- the lines that were read are spelled so, and none is past the limit
-lines_of-is : (passes at total : ℕ) (text : List (List ℕ)) (items : List ScriptLine) → at ≤ MOST_LINES + 1 → lines_of passes at total text ≡ Ok items
+pub lines_of-is : (passes at total : ℕ) (text : List (List ℕ)) (items : List ScriptLine) → at ≤ MOST_LINES + 1 → lines_of passes at total text ≡ Ok items
     → SpellsLines passes at items text × (at + length text ≤ MOST_LINES + 1)
 unfolding lines_of
 lines_of-is passes at total [] items below h = let same : [] ≡ items = cc in (sym same, omega arith)
@@ -57,29 +57,29 @@ lines_of-is passes at total (line ∷ rest) items below h =
     (line-is passes at line rest read.0 items more.0 read.1 (sym same) after.0, omega arith)
 
 -- lines that are spelled so are read
-within_limit-from : (at : ℕ) → at ≤ MOST_LINES → within_limit at ≡ Ok tt
+pub within_limit-from : (at : ℕ) → at ≤ MOST_LINES → within_limit at ≡ Ok tt
 unfolding within_limit
 within_limit-from at within = let below : nat_lt MOST_LINES at ≡ false = false-lt MOST_LINES at within in rw below refl
 
-total_with-from : (at total : ℕ) (line : ScriptLine) → total + amount line.order ≤ MOST_NUMBER → total_with at total (Some line) ≡ Ok (total + amount line.order)
+pub total_with-from : (at total : ℕ) (line : ScriptLine) → total + amount line.order ≤ MOST_NUMBER → total_with at total (Some line) ≡ Ok (total + amount line.order)
 unfolding total_with
 total_with-from at total line within =
     let below : nat_lt MOST_NUMBER (total + amount line.order) ≡ false = false-lt MOST_NUMBER (total + amount line.order) within in
     rw below refl
 
-lines_of-blank : (passes at total : ℕ) (line : List ℕ) (rest : List (List ℕ)) (items : List ScriptLine) → words line ≡ [] → at ≤ MOST_LINES
+pub lines_of-blank : (passes at total : ℕ) (line : List ℕ) (rest : List (List ℕ)) (items : List ScriptLine) → words line ≡ [] → at ≤ MOST_LINES
     → lines_of passes (at + 1) total rest ≡ Ok items → lines_of passes at total (line ∷ rest) ≡ Ok items
 unfolding lines_of line_of total_with
 lines_of-blank passes at total line rest items blank within after = rw (blank, within_limit-from at within, after) refl
 
-lines_of-item : (passes at total : ℕ) (line : List ℕ) (rest : List (List ℕ)) (item : ScriptLine) (more : List ScriptLine)
+pub lines_of-item : (passes at total : ℕ) (line : List ℕ) (rest : List (List ℕ)) (item : ScriptLine) (more : List ScriptLine)
     → line_of passes at (words line) ≡ Ok (Some item) → at ≤ MOST_LINES → total + amount item.order ≤ MOST_NUMBER
     → lines_of passes (at + 1) (total + amount item.order) rest ≡ Ok more → lines_of passes at total (line ∷ rest) ≡ Ok (item ∷ more)
 unfolding lines_of
 lines_of-item passes at total line rest item more was within below after =
     rw (was, within_limit-from at within, total_with-from at total item below, after) refl
 
-lines_of-from : (passes at total : ℕ) (text : List (List ℕ)) (items : List ScriptLine) → at + length text ≤ MOST_LINES + 1
+pub lines_of-from : (passes at total : ℕ) (text : List (List ℕ)) (items : List ScriptLine) → at + length text ≤ MOST_LINES + 1
     → total + total_amount items ≤ MOST_NUMBER → SpellsLines passes at items text → lines_of passes at total text ≡ Ok items
 lines_of-from passes at total [] items within below s = rw s (lines_of-nothing passes at total)
 lines_of-from passes at total (line ∷ rest) items within below (inl s) =
@@ -96,7 +96,7 @@ first_is : (name verb : List ℕ) (rest more : List (List ℕ)) → name ≡ ver
 first_is name verb rest more p q = cc
 
 -- the words of the first line, one after the other
-after_funnel-is : (at : ℕ) (all more : List (List ℕ)) → after_funnel at all ≡ Ok more → all ≡ codes "funnel" ∷ more
+pub after_funnel-is : (at : ℕ) (all more : List (List ℕ)) → after_funnel at all ≡ Ok more → all ≡ codes "funnel" ∷ more
 unfolding after_funnel
 after_funnel-is at [] more h = cc
 after_funnel-is at (name ∷ rest) more h =
@@ -104,7 +104,7 @@ after_funnel-is at (name ∷ rest) more h =
     let named = (bytes_eq-Decides name (codes "funnel")).0 was.0 in
     first_is name (codes "funnel") rest more named was.1
 
-next_number-is : (at : ℕ) (all : List (List ℕ)) (read : ℕ × List (List ℕ)) → next_number at all ≡ Ok read
+pub next_number-is : (at : ℕ) (all : List (List ℕ)) (read : ℕ × List (List ℕ)) → next_number at all ≡ Ok read
     → (word : List ℕ) × (all ≡ word ∷ read.1) × (number word ≡ Some read.0)
 unfolding next_number
 next_number-is at [] read h = cc
@@ -114,11 +114,11 @@ next_number-is at (word ∷ more) read h =
     let same : (was.0, more) ≡ read = (let made = was.2 in cc) in
     rw (← same) (word, refl, is)
 
-next_number-from : (at : ℕ) (word : List ℕ) (more : List (List ℕ)) (n : ℕ) → number word ≡ Some n → next_number at (word ∷ more) ≡ Ok (n, more)
+pub next_number-from : (at : ℕ) (word : List ℕ) (more : List (List ℕ)) (n : ℕ) → number word ≡ Some n → next_number at (word ∷ more) ≡ Ok (n, more)
 unfolding next_number
 next_number-from at word more n is = rw is refl
 
-no_more-is : (at : ℕ) (all : List (List ℕ)) (u : Unit {0}) → no_more at all ≡ Ok u → all ≡ []
+pub no_more-is : (at : ℕ) (all : List (List ℕ)) (u : Unit {0}) → no_more at all ≡ Ok u → all ≡ []
 unfolding no_more
 no_more-is at [] u h = refl
 no_more-is at (word ∷ more) u h = cc
@@ -162,17 +162,17 @@ shaped-is : (passes leaves levels rows opening : ℕ) (header : Header) → shap
 unfolding shaped
 shaped-is passes leaves levels rows opening header h = header_or-is (first_fault passes leaves levels rows) _ header h
 
-shaped-from : (passes leaves levels rows opening : ℕ) → first_fault passes leaves levels rows ≡ None
+pub shaped-from : (passes leaves levels rows opening : ℕ) → first_fault passes leaves levels rows ≡ None
     → shaped passes leaves levels rows opening ≡ Ok (record { passes = passes; leaves = leaves; levels = levels; rows = rows; opening = opening })
 unfolding shaped
 shaped-from passes leaves levels rows opening is = rw is refl
 
 -- the first line that was read is spelled so
-chain : (all : List (List ℕ)) (f p l v r o : List ℕ) (a b c d e g : List (List ℕ)) → all ≡ f ∷ a → a ≡ p ∷ b → b ≡ l ∷ c → c ≡ v ∷ d → d ≡ r ∷ e → e ≡ o ∷ g → g ≡ []
+pub chain : (all : List (List ℕ)) (f p l v r o : List ℕ) (a b c d e g : List (List ℕ)) → all ≡ f ∷ a → a ≡ p ∷ b → b ≡ l ∷ c → c ≡ v ∷ d → d ≡ r ∷ e → e ≡ o ∷ g → g ≡ []
     → all ≡ f ∷ p ∷ l ∷ v ∷ r ∷ o ∷ []
 chain all f p l v r o a b c d e g h1 h2 h3 h4 h5 h6 h7 = rw (h1, h2, h3, h4, h5, h6, h7) refl
 
-header_of-is : (at : ℕ) (all : List (List ℕ)) (header : Header) → header_of at all ≡ Ok header → SpellsHeader header all
+pub header_of-is : (at : ℕ) (all : List (List ℕ)) (header : Header) → header_of at all ≡ Ok header → SpellsHeader header all
 unfolding header_of
 header_of-is at all header h =
     let named = bind_ok (after_funnel at all) _ header h in
@@ -208,11 +208,11 @@ header_of-is at all header h =
 capped-small : (n : ℕ) → n ≤ 64 → capped n ≡ n
 capped-small n small = omega arith
 
-after_funnel-from : (at : ℕ) (more : List (List ℕ)) → after_funnel at (codes "funnel" ∷ more) ≡ Ok more
+pub after_funnel-from : (at : ℕ) (more : List (List ℕ)) → after_funnel at (codes "funnel" ∷ more) ≡ Ok more
 unfolding after_funnel
 after_funnel-from at more = refl
 
-header_of-from : (at : ℕ) (all : List (List ℕ)) (header : Header) → SpellsHeader header all → header_of at all ≡ Ok header
+pub header_of-from : (at : ℕ) (all : List (List ℕ)) (header : Header) → SpellsHeader header all → header_of at all ≡ Ok header
 unfolding header_of no_more
 header_of-from at all header s =
     let small = shape-small header.passes header.leaves header.levels header.rows s.shape in
@@ -221,11 +221,11 @@ header_of-from at all header s =
     (shaped-from header.passes header.leaves header.levels header.rows header.opening s.shape)))
 
 -- the first line with words stands after lines without
-none_left : (all : List (List ℕ)) → is_any all ≡ false → all ≡ []
+pub none_left : (all : List (List ℕ)) → is_any all ≡ false → all ≡ []
 none_left [] h = refl
 none_left (word ∷ more) h = cc
 
-first_with_words-is : (at : ℕ) (text : List (List ℕ)) (first : FirstLine) → first_with_words at text ≡ Some first
+pub first_with_words-is : (at : ℕ) (text : List (List ℕ)) (first : FirstLine) → first_with_words at text ≡ Some first
     → (front : List (List ℕ)) × (text ≡ front ++ first.line ∷ first.rest) × AllByRecursion (λ line. words line ≡ []) front × (first.at ≡ at + length front)
 unfolding first_with_words
 first_with_words-is at [] first h = cc
@@ -242,7 +242,7 @@ first_with_words-is at (line ∷ rest) first h =
           (line ∷ split.0, ap (λ (text : List (List ℕ)). line ∷ text) split.1, (none_left (words line) none, split.2), omega arith)
     ]
 
-first_with_words-from : (at : ℕ) (front : List (List ℕ)) (first : List ℕ) (rest : List (List ℕ)) → AllByRecursion (λ line. words line ≡ []) front → is_any (words first) ≡ true
+pub first_with_words-from : (at : ℕ) (front : List (List ℕ)) (first : List ℕ) (rest : List (List ℕ)) → AllByRecursion (λ line. words line ≡ []) front → is_any (words first) ≡ true
     → first_with_words at (front ++ first ∷ rest) ≡ Some (record { at = at + length front; line = first; rest = rest })
 unfolding first_with_words
 first_with_words-from at [] first rest blank has = let e : at ≡ at + 0 = omega arith in rw (has, ← e) refl

@@ -17,3 +17,4 @@ pub mod Trace
 pub mod TraceFaults
 pub mod TraceGrammar
 pub mod TraceLaws
+pub mod WholeFaults

@@ -4,6 +4,7 @@ ghost use Rattle.trace_text.specs.Script.{Content, Gives, content, first_with_wo
 ghost use Rattle.trace_text.specs.Faults.{FirstLineIsAtFault, LineFaultsAreFirst};
 ghost use Rattle.trace_text.specs.Grammar.{IsScript};
 ghost use Rattle.trace_text.specs.Sound.{IsNumbered, IsSound};
+ghost use Rattle.trace_text.specs.WholeFaults.{FirstIsRefused, RefusedForFirst};
 
 use crate::headers::read_header;
 use crate::orders::read_line;
@@ -50,10 +51,12 @@ fn read_from(alloc: Global, at: u64, line: &[u8], lines: Lines<'_>) -> Result<Sc
 }
 
 /// A line that is refused is so for its first fault, and lines that are refused are so for the
-/// first of them that is at fault.
+/// first of them that is at fault. A script is refused exactly for its first fault.
 pub fn fault_laws()
     ensures line_faults_are_first { LineFaultsAreFirst }
     ensures first_line_is_at_fault { FirstLineIsAtFault }
+    ensures refused_for_first { RefusedForFirst }
+    ensures first_is_refused { FirstIsRefused }
 {}
 
 // Takes the lines up to the first with words, and gives that one with its number.

@@ -7,7 +7,7 @@ ghost use Rattle.trace_text.specs.Records.{records_of};
 ghost use Rattle.trace_text.specs.SoundTrace.{IsSoundTrace};
 ghost use Rattle.trace_text.specs.TraceFaults.{FirstRecordIsAtFault, NoRecordIsAtFault, RecordFaultsAreFirst};
 ghost use Rattle.trace_text.specs.TraceGrammar.{IsTrace};
-ghost use Rattle.trace_text.specs.TraceLaws.{AccountsAreCounted, GrammarIsRead, TracesAreInGrammar};
+ghost use Rattle.trace_text.specs.TraceLaws.{FirstIsRefused, GrammarIsRead, RefusedForFirst, StateIsKnown, TracesAreInGrammar};
 ghost use Rattle.trace_text.specs.declared.fields.Action.TheVariants.{Open};
 ghost use Rattle.trace_text.specs.Trace.{Becomes, Content, Gives, acted, called, content, content_of, opened, place_of, record_after, records_after, settled, start, state_of, trace_of, unnamed, within};
 
@@ -252,19 +252,22 @@ pub fn read_trace(alloc: Global, workers: u32, bytes: &[u8]) -> Result<Trace, Tr
 }
 
 /// A record that is refused is so for its first fault, records that are refused are so for the
-/// first of them that is at fault, and where records are read none of them is.
+/// first of them that is at fault, and where records are read none of them is. A trace is refused
+/// exactly for its first fault.
 pub fn trace_fault_laws()
     ensures record_faults_are_first { RecordFaultsAreFirst }
     ensures first_record_is_at_fault { FirstRecordIsAtFault }
     ensures no_record_is_at_fault { NoRecordIsAtFault }
+    ensures refused_for_first { RefusedForFirst }
+    ensures first_is_refused { FirstIsRefused }
 {}
 
-/// What is read is in the grammar, what is in the grammar is read, and the sums of each tenant
-/// are counted as the rows and cuts before say.
+/// What is read is in the grammar, what is in the grammar is read, and what is known after some
+/// records, the sums of each tenant too, follows from what they say.
 pub fn trace_laws()
     ensures traces_are_in_grammar { TracesAreInGrammar }
     ensures grammar_is_read { GrammarIsRead }
-    ensures accounts_are_counted { AccountsAreCounted }
+    ensures state_is_known { StateIsKnown }
 {}
 
 // Reads the records after the first one, with room for so many rows to begin with.
