@@ -10,6 +10,7 @@ use Rattle.trace_text.specs.declared.scripts.ScriptLine.{ScriptLine}
 use Rattle.trace_text.specs.Text.{lines}
 use Rattle.trace_text.specs.Records.{records_of}
 use Rattle.trace_text.proofs.Heard.{grammar-read}
+use Rattle.trace_text.proofs.Known.{first-refused}
 use Rattle.throttle_run.proofs.ReadingSpelled.{takes-read}
 use Rattle.throttle_run.proofs.ReadingFaults.{first-told}
 use Rattle.fn_rounds.specs.Script.{IsChangeOrder, other_order}
@@ -104,7 +105,7 @@ replay-accepts : (workers : ℕ) (bytes : List ℕ) (why : Refusal) → IsAccept
 replay-accepts workers bytes TooLong accepted refuses = refuses
 replay-accepts workers bytes (ByScript fault) accepted refuses = refuses
 replay-accepts workers bytes (ByPlay fault) accepted refuses = refuses
-replay-accepts workers bytes (ByTrace fault) accepted refuses = cc (sym (grammar-read workers (records_of bytes) accepted.0 accepted.1) ∙ refuses)
+replay-accepts workers bytes (ByTrace fault) accepted refuses = cc (sym (grammar-read workers (records_of bytes) accepted.0 accepted.1) ∙ first-refused workers (records_of bytes) fault refuses)
 replay-accepts workers bytes (TooManyLines at) accepted refuses = refuses
 replay-accepts workers bytes (ByOrder at) accepted refuses = refuses
 replay-accepts workers bytes (ByThrottle fault) accepted refuses = refuses

@@ -16,9 +16,10 @@ use Rattle.fn_layout.specs.declared.shape.ShapeFault.{ShapeFault}
 use Rattle.fn_layout.specs.declared.shape.ShapeFault.TheVariants as shape
 use Rattle.quota_pool.specs.declared.moved.Moved.{Moved}
 use Rattle.trace_text.specs.Drill.{drill, drill_rows, total_taken}
-use Rattle.trace_text.specs.Script.{script_of, content}
-use Rattle.trace_text.specs.Trace.{Content, added, trace_of}
+use Rattle.trace_text.specs.Script.{content, script_of}
+use Rattle.trace_text.specs.Trace.{Content, added}
 use Rattle.trace_text.specs.TraceGrammar.{IsTrace}
+use Rattle.trace_text.specs.TraceLaws as trace_fault
 use Rattle.trace_text.specs.Records.{records_of}
 use Rattle.trace_text.specs.declared.scripts.Script.{Script}
 use Rattle.trace_text.specs.declared.scripts.ScriptFault.{ScriptFault}
@@ -153,7 +154,7 @@ RefusesScript bytes _ = ⊥
 
 -- why bytes are no trace
 abbrev pub RefusesTrace : ℕ → List ℕ → Refusal → Type 0
-RefusesTrace workers bytes (ByTrace fault) = trace_of workers bytes ≡ Err fault
+RefusesTrace workers bytes (ByTrace fault) = trace_fault.IsFirstFault workers (records_of bytes) fault
 RefusesTrace workers bytes _ = ⊥
 
 -- why lines aren't relayed: there is one more than may be, which is told

@@ -1,5 +1,5 @@
 -- What is known after some records follows from what they say, and so does the first fault after them.
-use Rattle.std.proofs.Common.{◌≡◌, ℕ, suc, ◌+◌, ◌<◌, List, [], ◌∷◌, ◌++◌, length, get_or, Option, Some, None, Result, Ok, Err, ◌⊎◌, inl, inr, refl, sym, ap, ◌∙◌, arith, subst}
+use Rattle.std.proofs.Common.{◌≡◌, ℕ, suc, ◌+◌, ◌<◌, List, [], ◌∷◌, ◌++◌, length, get_or, Option, Some, None, Result, Ok, Err, IfErr, ◌⊎◌, inl, inr, refl, sym, ap, ◌∙◌, arith, subst}
 use Rattle.trace_text.proofs.FirstFaults.{first-record, record-fault}
 use Rattle.trace_text.proofs.Heard.{read_all-from}
 use Rattle.trace_text.proofs.LastSegment.{ended-last}
@@ -9,14 +9,16 @@ use Rattle.trace_text.proofs.SoundLines.{bind_ok}
 use Rattle.trace_text.proofs.SoundSteps.{Agrees}
 use Rattle.trace_text.specs.Fields.{format_of}
 use Rattle.trace_text.specs.SoundTrace.{additions, amounts}
+use Rattle.trace_text.specs.Records.{records_of}
 use Rattle.trace_text.specs.Steps.{◌>>=◌, fault_in}
-use Rattle.trace_text.specs.Trace.{State, content_of, read_all, record_after, records_after, start}
+use Rattle.trace_text.specs.Trace.{Gives, State, content, content_of, read_all, record_after, records_after, start, trace_of}
 use Rattle.trace_text.specs.TraceFaults.{record_fault}
-use Rattle.trace_text.specs.TraceLaws.{FirstIsRefused, HasNoFormat, IsFirstFault, RefusedForFirst, StateIsKnown, StopsAt, all_counted, counted, known}
+use Rattle.trace_text.specs.TraceLaws.{FirstIsRefused, HasNoFormat, IsFirstFault, IsRefusedFor, RefusedForFirst, StateIsKnown, StopsAt, all_counted, counted, known}
 use Rattle.trace_text.specs.declared.fields.Format.{Format}
 use Rattle.trace_text.specs.declared.tenants.Account.{Account}
 use Rattle.trace_text.specs.declared.traces.Cut.{Cut}
 use Rattle.trace_text.specs.declared.traces.Row.{Row}
+use Rattle.trace_text.specs.declared.traces.Trace.{Trace}
 use Rattle.trace_text.specs.declared.traces.TraceFault.{TraceFault}
 use Rattle.trace_text.specs.declared.traces.TraceFault.TheVariants as fault
 
@@ -125,3 +127,19 @@ stop-refused workers records found s =
 pub first-refused : FirstIsRefused
 first-refused workers records found (inl none) = rw (read_all-none workers records none.0, none.1) refl
 first-refused workers records found (inr s) = rw (stop-refused workers records found s) refl
+
+-- a reading that answers a fault is refused for it
+pub gives-first : (workers : ℕ) (bytes : List ℕ) (result : Result Trace TraceFault) → Gives content result (trace_of workers bytes) → IfErr result (λ found. IsRefusedFor workers (records_of bytes) found)
+gives-first workers bytes (Ok trace) h = tt
+gives-first workers bytes (Err fault.NoMemory) h = tt
+gives-first workers bytes (Err (fault.Header at)) h = refused-for_first workers (records_of bytes) (fault.Header at) h
+gives-first workers bytes (Err (fault.Fields at)) h = refused-for_first workers (records_of bytes) (fault.Fields at) h
+gives-first workers bytes (Err (fault.Worker at)) h = refused-for_first workers (records_of bytes) (fault.Worker at) h
+gives-first workers bytes (Err (fault.Op at)) h = refused-for_first workers (records_of bytes) (fault.Op at) h
+gives-first workers bytes (Err (fault.Tenant at)) h = refused-for_first workers (records_of bytes) (fault.Tenant at) h
+gives-first workers bytes (Err (fault.Amount at)) h = refused-for_first workers (records_of bytes) (fault.Amount at) h
+gives-first workers bytes (Err (fault.Again at)) h = refused-for_first workers (records_of bytes) (fault.Again at) h
+gives-first workers bytes (Err (fault.Unknown at)) h = refused-for_first workers (records_of bytes) (fault.Unknown at) h
+gives-first workers bytes (Err (fault.TooMany at)) h = refused-for_first workers (records_of bytes) (fault.TooMany at) h
+gives-first workers bytes (Err (fault.Total at)) h = refused-for_first workers (records_of bytes) (fault.Total at) h
+gives-first workers bytes (Err (fault.Cap at)) h = refused-for_first workers (records_of bytes) (fault.Cap at) h

@@ -1,5 +1,5 @@
 -- The first fault of a whole script, both ways.
-use Rattle.std.proofs.Common.{◌≡◌, ◌≢◌, ℕ, suc, ◌+◌, ◌<◌, ◌≤◌, Bool, true, false, List, [], ◌∷◌, ◌++◌, length, Option, Some, None, Result, Ok, Err, inl, inr, refl, ◌∙◌, arith}
+use Rattle.std.proofs.Common.{◌≡◌, ◌≢◌, ℕ, suc, ◌+◌, ◌<◌, ◌≤◌, Bool, true, false, List, [], ◌∷◌, ◌++◌, length, Option, Some, None, Result, Ok, Err, IfErr, inl, inr, refl, ◌∙◌, arith}
 use Rattle.std.specs.Prelude.{nat_lt, if◌then◌else◌}
 use Rattle.std.proofs.lemmas.Bool.{cases_Bool}
 use Rattle.std.proofs.lemmas.List.Sums.{sum_by-cons}
@@ -11,13 +11,14 @@ use Rattle.trace_text.proofs.Whole.{false-lt, first_with_words-from, first_with_
 use Rattle.trace_text.specs.Faults.{IsAtFault}
 use Rattle.trace_text.specs.Grammar.{SpellsLines}
 use Rattle.trace_text.specs.Order.{amount}
-use Rattle.trace_text.specs.Script.{FirstLine, Header, first_with_words, has_words, header_of, is_any, line_of, lines_of, script_from, total_with, within_limit}
+use Rattle.trace_text.specs.Script.{FirstLine, Gives, Header, content, first_with_words, has_words, header_of, is_any, line_of, lines_of, script_from, script_of, total_with, within_limit}
 use Rattle.trace_text.specs.Sound.{total_amount}
 use Rattle.trace_text.specs.Steps.{fault_in}
 use Rattle.trace_text.specs.Text.{lines, words}
-use Rattle.trace_text.specs.WholeFaults.{AreBlank, FirstIsRefused, IsFaultFrom, IsFirstFault, IsLaterFault, IsLineFault, RefusedForFirst}
+use Rattle.trace_text.specs.WholeFaults.{AreBlank, FirstIsRefused, IsFaultFrom, IsFirstFault, IsLaterFault, IsLineFault, IsRefusedFor, RefusedForFirst}
 use Rattle.trace_text.specs.declared.pieces.TheConstants.{MOST_NUMBER}
 use Rattle.trace_text.specs.declared.reading.TheConstants.{MOST_LINES}
+use Rattle.trace_text.specs.declared.scripts.Script.{Script}
 use Rattle.trace_text.specs.declared.scripts.ScriptFault.{ScriptFault}
 use Rattle.trace_text.specs.declared.scripts.ScriptFault.TheVariants as fault
 use Rattle.trace_text.specs.declared.scripts.ScriptLine.{ScriptLine}
@@ -215,3 +216,16 @@ text-refused text found (inr f) =
 
 pub first-refused : FirstIsRefused
 first-refused bytes found f = text-refused (lines bytes) found f
+
+-- a reading that answers a fault is refused for it
+pub gives-first : (bytes : List ℕ) (result : Result Script ScriptFault) → Gives content result (script_of bytes) → IfErr result (λ found. IsRefusedFor (lines bytes) found)
+gives-first bytes (Ok script) h = tt
+gives-first bytes (Err fault.NoMemory) h = tt
+gives-first bytes (Err (fault.Header at)) h = refused-for_first bytes (fault.Header at) h
+gives-first bytes (Err (fault.Shape why)) h = refused-for_first bytes (fault.Shape why) h
+gives-first bytes (Err (fault.Fields at)) h = refused-for_first bytes (fault.Fields at) h
+gives-first bytes (Err (fault.Pass at)) h = refused-for_first bytes (fault.Pass at) h
+gives-first bytes (Err (fault.Op at)) h = refused-for_first bytes (fault.Op at) h
+gives-first bytes (Err (fault.Amount at)) h = refused-for_first bytes (fault.Amount at) h
+gives-first bytes (Err (fault.TooMany at)) h = refused-for_first bytes (fault.TooMany at) h
+gives-first bytes (Err (fault.Total at)) h = refused-for_first bytes (fault.Total at) h

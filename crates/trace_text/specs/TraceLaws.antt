@@ -81,6 +81,11 @@ pub record StopsAt (workers : ℕ) (records : List (List (List ℕ))) (found : T
 abbrev pub IsFirstFault : ℕ → List (List (List ℕ)) → TraceFault → Type 0
 IsFirstFault workers records found = (HasNoFormat records × (found ≡ fault.Header 0)) ⊎ StopsAt workers records found
 
+-- a trace is refused for its first fault, unless memory ran out
+abbrev pub IsRefusedFor : ℕ → List (List (List ℕ)) → TraceFault → Type 0
+IsRefusedFor workers records fault.NoMemory = Unit {0}
+IsRefusedFor workers records found = IsFirstFault workers records found
+
 -- records that are refused are so for their first fault
 abbrev pub RefusedForFirst : Type 0
 RefusedForFirst = (workers : ℕ) (records : List (List (List ℕ))) (found : TraceFault) → said_by workers records ≡ Err found → IsFirstFault workers records found

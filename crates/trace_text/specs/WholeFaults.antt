@@ -68,6 +68,11 @@ IsFirstFault text found =
     (AreBlank text × (found ≡ fault.Header 1))
     ⊎ ((front : List (List ℕ)) × (first : List ℕ) × (rest : List (List ℕ)) × IsFirst text front first rest × IsFaultFrom (1 + length front) first rest found)
 
+-- a script is refused for its first fault, unless memory ran out
+abbrev pub IsRefusedFor : List (List ℕ) → ScriptFault → Type 0
+IsRefusedFor text fault.NoMemory = Unit {0}
+IsRefusedFor text found = IsFirstFault text found
+
 -- a script that is refused is so for its first fault
 abbrev pub RefusedForFirst : Type 0
 RefusedForFirst = (bytes : List ℕ) (found : ScriptFault) → script_of bytes ≡ Err found → IsFirstFault (lines bytes) found

@@ -1,10 +1,10 @@
 //! Reading a script: line by line, up to the first fault.
-ghost use Rattle.std.specs.Prelude.{◌≡◌, ◌≤◌, ◌+◌, ◌^◌, ◌<◌, ◌++◌, length, Ok, Some, None, IfOk, IfSome, OnOk, MatchOption, option_to_list};
+ghost use Rattle.std.specs.Prelude.{◌≡◌, ◌≤◌, ◌+◌, ◌^◌, ◌<◌, ◌++◌, length, Ok, Some, None, IfOk, IfSome, OnOk, IfErr, MatchOption, option_to_list};
 ghost use Rattle.trace_text.specs.Script.{Content, Gives, content, first_with_words, has_words, lines_of, script_from, script_of, total_with, within_limit};
 ghost use Rattle.trace_text.specs.Faults.{FirstLineIsAtFault, LineFaultsAreFirst};
 ghost use Rattle.trace_text.specs.Grammar.{IsScript};
 ghost use Rattle.trace_text.specs.Sound.{IsNumbered, IsSound};
-ghost use Rattle.trace_text.specs.WholeFaults.{FirstIsRefused, RefusedForFirst};
+ghost use Rattle.trace_text.specs.WholeFaults.{FirstIsRefused, IsRefusedFor, RefusedForFirst};
 
 use crate::headers::read_header;
 use crate::orders::read_line;
@@ -21,6 +21,7 @@ pub const MOST_LINES: u64 = 65_536;
 pub fn read_script(alloc: Global, bytes: &[u8]) -> Result<Script, ScriptFault>
     ensures found { IfOk result (λ script. IsScript bytes.now (content script)) }
     ensures only { (script : Content) → IsScript bytes.now script → Gives content result (Ok script) }
+    ensures first { IfErr result (λ fault. IsRefusedFor (lines bytes.now) fault) }
     ensures exact { Gives content result (script_of bytes.now) }
     ensures sound { IfOk result IsSound }
     ensures numbered { IfOk result (λ script. IsNumbered script.lines) }

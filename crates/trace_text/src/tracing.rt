@@ -1,5 +1,5 @@
 //! Reading a trace: record by record, up to the first fault.
-ghost use Rattle.std.specs.Prelude.{◌≡◌, ◌≤◌, ◌<◌, ◌+◌, true, length, Ok, Err, None, IfOk, IfSome, OnOk};
+ghost use Rattle.std.specs.Prelude.{◌≡◌, ◌≤◌, ◌<◌, ◌+◌, true, length, Ok, Err, None, IfOk, IfErr, IfSome, OnOk};
 ghost use Rattle.csv.specs.Records.{fields_of};
 ghost use Rattle.trace_text.specs.Accounts.{AreHeld};
 ghost use Rattle.trace_text.specs.Fields.{field, is_tenant};
@@ -7,7 +7,7 @@ ghost use Rattle.trace_text.specs.Records.{records_of};
 ghost use Rattle.trace_text.specs.SoundTrace.{IsSoundTrace};
 ghost use Rattle.trace_text.specs.TraceFaults.{FirstRecordIsAtFault, NoRecordIsAtFault, RecordFaultsAreFirst};
 ghost use Rattle.trace_text.specs.TraceGrammar.{IsTrace};
-ghost use Rattle.trace_text.specs.TraceLaws.{FirstIsRefused, GrammarIsRead, RefusedForFirst, StateIsKnown, TracesAreInGrammar};
+ghost use Rattle.trace_text.specs.TraceLaws.{FirstIsRefused, GrammarIsRead, IsRefusedFor, RefusedForFirst, StateIsKnown, TracesAreInGrammar};
 ghost use Rattle.trace_text.specs.declared.fields.Action.TheVariants.{Open};
 ghost use Rattle.trace_text.specs.Trace.{Becomes, Content, Gives, acted, called, content, content_of, opened, place_of, record_after, records_after, settled, start, state_of, trace_of, unnamed, within};
 
@@ -235,6 +235,7 @@ pub fn read_trace(alloc: Global, workers: u32, bytes: &[u8]) -> Result<Trace, Tr
     requires { 1 ≤ workers × (workers ≤ 64) }
     ensures found { IfOk result (λ trace. IsTrace workers (records_of bytes.now) (content trace)) }
     ensures only { (trace : Content) → IsTrace workers (records_of bytes.now) trace → Gives content result (Ok trace) }
+    ensures first { IfErr result (λ fault. IsRefusedFor workers (records_of bytes.now) fault) }
     ensures exact { Gives content result (trace_of workers bytes.now) }
     ensures sound { IfOk result (λ trace. IsSoundTrace workers (content trace)) }
 {
