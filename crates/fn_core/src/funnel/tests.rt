@@ -153,6 +153,7 @@ fn the_laws_are_called() {
     crate::main_is_value();
     crate::words_are_small();
     crate::batches_follow();
+    crate::arrivals_have_offsets();
     crate::one_step_for_a_tree();
     crate::entries_stay();
     crate::rows_are_kept();
