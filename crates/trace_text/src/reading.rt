@@ -4,6 +4,7 @@ ghost use Rattle.trace_text.specs.Script.{Content, Gives, content, first_with_wo
 ghost use Rattle.trace_text.specs.Faults.{FirstLineIsAtFault, LineFaultsAreFirst};
 ghost use Rattle.trace_text.specs.Grammar.{IsScript};
 ghost use Rattle.trace_text.specs.Sound.{IsNumbered, IsSound};
+ghost use Rattle.trace_text.specs.Text.{lines};
 ghost use Rattle.trace_text.specs.WholeFaults.{FirstIsRefused, IsRefusedFor, RefusedForFirst};
 
 use crate::headers::read_header;
