@@ -11,7 +11,7 @@ mod workers;
 
 pub use lines::{Lines, LinesFault, MOST_LINES, split_lines};
 pub use relaying::{Relayed, relay};
-pub use replay_run::{Gate, OpenGate};
+pub use gates::{Gate, OpenGate};
 pub use texts::relay_text;
 pub use tq_queue::{NoMemory, QueueBook};
 

@@ -6,7 +6,7 @@ ghost use Rattle.relay_run.specs.Relay.{IsRelay, order_of};
 use crate::gathering::{Handed, places, written};
 use crate::lines::MOST_LINES;
 use crate::workers::{engage, worked};
-use replay_run::Gate;
+use gates::Gate;
 use std::alloc::Global;
 use std::sync::Wait;
 use std::thread::Threads;

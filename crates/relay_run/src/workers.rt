@@ -7,7 +7,7 @@ ghost use Rattle.relay_run.specs.Work.{first_lines, Advances, IsReady, IsDone, I
 use crate::desks::Desk;
 use crate::lines::MOST_LINES;
 use crate::shares::Share;
-use replay_run::Gate;
+use gates::Gate;
 use std::alloc::Global;
 use std::sync::Wait;
 use std::thread;

@@ -1,7 +1,6 @@
 //! Replays a trace: a worker for each of its lines of rows, all at once, on a pool of its tenants.
 #![tactic(auto)]
 
-mod gates;
 mod gathering;
 mod places;
 mod planning;

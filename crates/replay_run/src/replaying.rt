@@ -8,7 +8,7 @@ ghost use Rattle.replay_run.specs.Replay.{IsReplay, value_in};
 ghost use Rattle.replay_run.specs.Ready.{IsSoundSegment};
 ghost use Rattle.replay_run.specs.Course.{GoesOn};
 
-use crate::gates::Gate;
+use gates::Gate;
 use crate::segment::replay_segment;
 use fn_funnel::Book;
 use quota_pool::Moved;

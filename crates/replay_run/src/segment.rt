@@ -7,7 +7,7 @@ ghost use Rattle.quota_pool.specs.Opened.{IsOpened};
 ghost use Rattle.replay_run.specs.Ready.{IsSoundSegment, IsReady, Adds};
 ghost use Rattle.replay_run.specs.Work.{gathered};
 
-use crate::gates::Gate;
+use gates::Gate;
 use crate::gathering::gather;
 use crate::places::{Place, deal, leave, seat};
 use crate::planning::plan_rows;

@@ -6,7 +6,7 @@ ghost use Rattle.trace_text.specs.SoundTrace.{IsAmount};
 ghost use Rattle.replay_run.specs.Segments.{kind_of, goes_through};
 ghost use Rattle.replay_run.specs.Work.{rows_in, MayRun, Ran, MayWork, Worked};
 
-use crate::gates::Gate;
+use gates::Gate;
 use crate::places::{Job, Place};
 use quota_pool::{Desk, Moved, QuotaPool};
 use std::sync::Wait;

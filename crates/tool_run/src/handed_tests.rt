@@ -3,7 +3,7 @@ use crate::runs::Outcome;
 use crate::tests::{Ran, words_of};
 use crate::trace_tests::run_words;
 use edge_io::{MemSink, MemSource};
-use replay_run::OpenGate;
+use gates::OpenGate;
 use std::alloc::AllocGlobal;
 use std::random::RandomSource;
 use std::sync::Wait;

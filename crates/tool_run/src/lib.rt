@@ -20,6 +20,6 @@ pub use fn_table::Book;
 pub use quota_bucket::BucketBook;
 pub use quota_pool::Moved;
 pub use relay_run::QueueBook;
-pub use replay_run::{Gate, OpenGate};
+pub use gates::{Gate, OpenGate};
 pub use runs::{Outcome, run, run_play, tell};
 pub use script_run::{Caller, PlayFault, Script, play_script, trial_script};

@@ -20,7 +20,7 @@ use fn_table::Book;
 use quota_bucket::BucketBook;
 use quota_pool::Moved;
 use relay_run::QueueBook;
-use replay_run::Gate;
+use gates::Gate;
 use script_run::Caller;
 use std::alloc::{AllocGlobal, Global};
 use std::random::RandomSource;

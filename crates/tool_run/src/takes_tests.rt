@@ -2,7 +2,7 @@
 use crate::tests::words_of;
 use crate::trace_tests::{Crossing, USAGE, run_words};
 use edge_io::{MemSink, MemSource};
-use replay_run::OpenGate;
+use gates::OpenGate;
 use std::sync::atomic::Ordering;
 use std::test::Fail;
 

@@ -3,7 +3,7 @@ use crate::runs::run;
 use crate::tests::{Ran, words_of};
 use edge_io::{MemSink, MemSource};
 use quota_pool::Moved;
-use replay_run::{Gate, OpenGate};
+use gates::{Gate, OpenGate};
 use std::alloc::{AllocGlobal, Global};
 use std::random::RandomSource;
 use std::sync::Wait;

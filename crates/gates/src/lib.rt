@@ -1,4 +1,5 @@
-//! What is called around each row.
+//! What workers call around each row or line: a test can let two of them cross there, a program lets them pass.
+#![tactic(auto)]
 
 /// What a worker calls before and after each row. Its calls change nothing that a replay answers.
 pub trait Gate {
