@@ -1,4 +1,4 @@
--- A desk after one of its passes has made a call.
+-- A desk after one of its passes has made a call: what it claims, and how the call was made.
 use Rattle.std.proofs.Common.{◌≡◌, ◌<◌, ◌≤◌, ◌⊎◌, get_or, get_or-set_same, get_or-set_other, ◌-◌, min, true, false, ℕ, List, map, set, length, slice_get, Option, Some, None, Bool, Vec, refl, sym, ap, ◌∙◌, subst, arith, inl, inr}
 use Rattle.std.proofs.lemmas.List.{with_items_is, set-set, length-set}
 use Rattle.std.proofs.lemmas.Bool.{cases_eq}
@@ -6,10 +6,10 @@ use Rattle.std.proofs.lemmas.Option.{slice_get_cases, slice_get_within, get_or_f
 use Rattle.std.specs.declared.alloc.Global.{Global}
 use Rattle.std.specs.Vec.{with_item, with_items}
 use Rattle.fn_model.specs.declared.Kind.{Kind}
-use Rattle.fn_model.specs.declared.Kind.TheVariants.{Add, Sub, Read}
+use Rattle.fn_model.specs.declared.Kind.TheVariants.{Add, Read}
 use Rattle.fn_core.specs.declared.Start.{Start}
-use Rattle.fn_core.specs.Calls.{IsIdle}
 use Rattle.fn_core.specs.Entries.{IsAlone}
+use Rattle.fn_model.specs.Integer.{moved_amount}
 use Rattle.fn_model.proofs.Lists.{slice_get-set_same, slice_get-set_other}
 use Rattle.fn_core.specs.declared.Move.TheVariants.{Load}
 use Rattle.fn_core.specs.declared.Purpose.TheVariants as purpose
@@ -17,13 +17,15 @@ use Rattle.fn_table.specs.Seen.{TableView, PassView, IsOf, Stepped}
 use Rattle.fn_table.specs.Later.{IsLater}
 use Rattle.fn_table.proofs.Later.{later_by}
 use Rattle.fn_table.specs.Called.{call_of, HasCalled}
+use Rattle.fn_table.specs.Claims.{Rests, Made}
 use Rattle.fn_funnel.specs.declared.waiting.Added.{Added}
 use Rattle.fn_funnel.specs.Waiting.{Waited, IsStraight, is_one_step}
 use Rattle.quota_pool.specs.declared.moved.Moved.{Moved}
 use Rattle.quota_pool.specs.declared.closing.Closing.{Closing}
 use Rattle.quota_pool.specs.Rooms.{HasPlace, KeepsRoom}
 use Rattle.quota_pool.specs.Views.{PoolView, DeskView, held, AreFull, Belongs}
-use Rattle.quota_pool.specs.Calls.{Called, CallsAt}
+use Rattle.quota_pool.specs.Claims.{MadeAt}
+use Rattle.quota_pool.specs.Calls.{Called, WentAt}
 use Rattle.quota_pool.proofs.Places.{held-map, full-map, held-set}
 
 -- where two lookups of one place have found something, they have found the same
@@ -51,20 +53,17 @@ written xs i j x y at =
 abbrev with_pass : DeskView → ℕ → PassView → DeskView
 with_pass desk tenant q = record { worker = desk.worker; passes = set desk.passes tenant q }
 
-module _ (pool : PoolView) (old : DeskView) (belongs : Belongs pool old) (tenant : ℕ) (p q : PassView) (kind : Kind) (through : Bool) (amount : ℕ) (answer : Moved)
-    (at : slice_get old.passes tenant ≡ Some p) (called : Called p kind through amount answer q) where
+module _ (pool : PoolView) (old : DeskView) (belongs : Belongs pool old) (tenant : ℕ) (p q : PassView) (kind : Kind) (amount reply : ℕ) (at : slice_get old.passes tenant ≡ Some p) (made : Made p kind amount reply q) where
   abbrev new : DeskView
   new = with_pass old tenant q
 
-  each : (t : ℕ) (table : TableView) (pass : PassView) → slice_get pool.tables t ≡ Some table → slice_get new.passes t ≡ Some pass → IsOf table pass × (pass.number ≡ old.worker) × IsIdle pass.seen pass.number
+  each : (t : ℕ) (table : TableView) (pass : PassView) → slice_get pool.tables t ≡ Some table → slice_get new.passes t ≡ Some pass → IsOf table pass × (pass.number ≡ old.worker) × Rests pass
   each t table pass here there =
       elim (written old.passes tenant t q pass there) [
         | inl (same, is) ↦
             let was = belongs.each t table p here (ap (λ n. slice_get old.passes n) same ∙ at) in
-            let later = called.later in
-            let Stands : PassView → Type 0 = λ v. IsOf table v × (v.number ≡ old.worker) × IsIdle v.seen v.number in
-            let idle : IsIdle q.seen q.number = subst (λ n. IsIdle q.seen n) (sym later.number) called.called.idle in
-            let stands : Stands q = ((later.table ∙ was.0.0, later.start ∙ was.0.1), later.number ∙ was.1, idle) in
+            let Stands : PassView → Type 0 = λ v. IsOf table v × (v.number ≡ old.worker) × Rests v in
+            let stands : Stands q = ((made.same.0 ∙ was.0.0, made.same.2 ∙ was.0.1), made.same.1 ∙ was.1, made.rests) in
             subst Stands (sym is) stands
         | inr still ↦ belongs.each t table pass here still
       ]
@@ -98,53 +97,62 @@ module _ (old : DeskView) (worker : ℕ) (v : Vec (Option PassView) Global) (sho
   pub had : (p : PassView) → slice_get (held shown) tenant ≡ Some p → slice_get old.passes tenant ≡ Some p
   had p found = ap (λ (d : DeskView). slice_get d.passes tenant) (sym is) ∙ ap (λ xs. slice_get (held xs) tenant) (sym all) ∙ found
 
-  pub makes_call : (pool : PoolView) → Belongs pool old → (p : PassView) (kind : Kind) (through : Bool) (amount : ℕ) (answer : Moved) → slice_get (held shown) tenant ≡ Some p → Called p kind through amount answer q
-      → CallsAt pool old tenant kind through amount answer (record { worker = worker; passes = held places })
-  makes_call pool belongs p kind through amount answer found called = record {
+  -- what it claims of the call that was made
+  pub made_at : (pool : PoolView) → Belongs pool old → (p : PassView) (kind : Kind) (amount : ℕ) (answer : Moved) → slice_get (held shown) tenant ≡ Some p → Made p kind amount answer.before q
+      → answer.moved ≡ moved_amount p.seen.start.cap answer.before kind amount → MadeAt pool old tenant kind amount answer (record { worker = worker; passes = held places })
+  made_at pool belongs p kind amount answer found made moved = record {
     pass = p;
     after = q;
     at = had p found;
-    called = called;
+    made = made;
+    moved = moved;
     desk = desk_after;
-    together = subst (λ (d : DeskView). Belongs pool d) (sym desk_after) (belongs_after pool old belongs tenant p q kind through amount answer (had p found) called);
+    together = subst (λ (d : DeskView). Belongs pool d) (sym desk_after) (belongs_after pool old belongs tenant p q kind amount answer.before (had p found) made);
   }
 
--- the cap of a desk's pass is that of its table
+  -- and how it was made
+  pub went_at : (p : PassView) (kind : Kind) (through : Bool) (amount : ℕ) (answer : Moved) → slice_get (held shown) tenant ≡ Some p → Called p kind through amount answer q
+      → WentAt old tenant kind through amount answer (record { worker = worker; passes = held places })
+  went_at p kind through amount answer found called first last was is =
+      let at : slice_get old.passes tenant ≡ Some p = had p found in
+      let now : slice_get (set old.passes tenant q) tenant ≡ Some q = slice_get-set_same old.passes tenant q (slice_get_within old.passes tenant p at) in
+      let there : slice_get (set old.passes tenant q) tenant ≡ Some last = ap (λ (d : DeskView). slice_get d.passes tenant) (sym desk_after) ∙ is in
+      subst (λ (v : PassView). Called v kind through amount answer last) (found_same (slice_get old.passes tenant) p first at was)
+      (subst (λ (v : PassView). Called p kind through amount answer v) (found_same (slice_get (set old.passes tenant q) tenant) q last now there) called)
+
+-- the cap of a desk's pass is that of its table, and it rests
 pub cap_is : (pool : PoolView) (desk : DeskView) (tenant : ℕ) (table : TableView) (p : PassView) → Belongs pool desk → slice_get pool.tables tenant ≡ Some table → slice_get desk.passes tenant ≡ Some p → p.seen.start.cap ≡ table.start.cap
 cap_is pool desk tenant table p belongs here there = ap (λ (start : Start). start.cap) ((belongs.each tenant table p here there).0.1)
 
--- an addition that waited for its reply
-pub added_by : (p q : PassView) (amount : ℕ) (added : Added) (n cap : ℕ) → Waited p Add amount added q → p.seen.start.cap ≡ cap → n ≡ min amount (cap - added.before) → Called p Add true amount (record { before = added.before; moved = n; way = Some added.way }) q
-added_by p q amount added n cap waited is moved = record {
-  later = waited.later;
-  called = waited.called;
-  moved = moved ∙ ap (λ limit. min amount (limit - added.before)) (sym is);
-  way = waited.way;
-  entered = waited.entered;
-}
+pub rests_at : (pool : PoolView) (desk : DeskView) (tenant : ℕ) (table : TableView) (p : PassView) → Belongs pool desk → slice_get pool.tables tenant ≡ Some table → slice_get desk.passes tenant ≡ Some p → Rests p
+rests_at pool desk tenant table p belongs here there = (belongs.each tenant table p here there).2
 
--- a subtraction
-pub taken_by : (p q : PassView) (amount : ℕ) (added : Added) (n : ℕ) → Waited p Sub amount added q → n ≡ min amount added.before → Called p Sub true amount (record { before = added.before; moved = n; way = Some added.way }) q
-taken_by p q amount added n waited moved = record { later = waited.later; called = waited.called; moved = moved; way = waited.way; entered = waited.entered }
+-- how much an addition moves
+pub moved_so : (p : PassView) (amount before n cap : ℕ) → p.seen.start.cap ≡ cap → n ≡ min amount (cap - before) → n ≡ moved_amount p.seen.start.cap before Add amount
+moved_so p amount before n cap is moved = moved ∙ ap (λ limit. min amount (limit - before)) (sym is)
+
+-- a call that waited for its reply
+pub waited_by : (p q : PassView) (kind : Kind) (amount : ℕ) (added : Added) (n : ℕ) → Waited p kind amount added q → n ≡ moved_amount p.seen.start.cap added.before kind amount → Called p kind true amount (record { before = added.before; moved = n; way = Some added.way }) q
+waited_by p q kind amount added n waited moved = record { later = waited.later; called = waited.called; moved = moved; way = waited.way; entered = waited.entered }
 
 -- an addition past the funnel
-pub directed_by : (p q : PassView) (amount before n cap : ℕ) → IsLater p q → HasCalled p Add amount before q → IsStraight (is_one_step Add p.seen.start.cap) p Add amount before q → p.seen.start.cap ≡ cap → n ≡ min amount (cap - before) → IsAlone q.seen (call_of p Add amount)
+pub directed_by : (p q : PassView) (amount before n : ℕ) → IsLater p q → HasCalled p Add amount before q → IsStraight (is_one_step Add p.seen.start.cap) p Add amount before q → n ≡ moved_amount p.seen.start.cap before Add amount → IsAlone q.seen (call_of p Add amount)
     → Called p Add false amount (record { before = before; moved = n; way = None }) q
-directed_by p q amount before n cap later called way is moved alone = record { later = later; called = called; moved = moved ∙ ap (λ limit. min amount (limit - before)) (sym is); way = way; entered = alone }
+directed_by p q amount before n later called way moved alone = record { later = later; called = called; moved = moved; way = way; entered = alone }
 
 -- a read
 pub read_by : (p q : PassView) (before : ℕ) → Stepped p (Load purpose.Read) before q → HasCalled p Read 0 before q → IsAlone q.seen (call_of p Read 0) → Called p Read false 0 (record { before = before; moved = 0; way = None }) q
 read_by p q before stepped called alone = record { later = later_by p (Load purpose.Read) before q stepped; called = called; moved = refl; way = stepped; entered = alone }
 
 -- the desk of the first worker keeps its room
-pub room_kept : (closing : Option Closing) (pool : PoolView) (old : DeskView) (tenant : ℕ) (kind : Kind) (through : Bool) (amount : ℕ) (answer : Moved) (new : DeskView) → KeepsRoom closing old → CallsAt pool old tenant kind through amount answer new → KeepsRoom closing new
-room_kept closing pool old tenant kind through amount answer new keeps call =
+pub room_kept : (closing : Option Closing) (pool : PoolView) (old : DeskView) (tenant : ℕ) (kind : Kind) (amount : ℕ) (answer : Moved) (new : DeskView) → KeepsRoom closing old → MadeAt pool old tenant kind amount answer new → KeepsRoom closing new
+room_kept closing pool old tenant kind amount answer new keeps call =
     let Keeps : DeskView → Type 0 = λ d. KeepsRoom closing d in
     subst Keeps (sym call.desk) (λ worker.
     let kept = keeps worker in
     let same : length (set old.passes tenant call.after) ≡ length old.passes = length-set old.passes tenant call.after in
     let few : call.pass.seen.start.shape.passes ≤ kept.1 = subst (λ (p : PassView). p.seen.start.shape.passes ≤ kept.1) (get_or_from_slice_get old.passes tenant call.pass call.pass call.at) (kept.4 tenant call.pass (slice_get_within old.passes tenant call.pass call.at)) in
-    let after : call.after.seen.start.shape.passes ≤ kept.1 = subst (λ (s : Start). s.shape.passes ≤ kept.1) (sym call.called.later.start) few in (
+    let after : call.after.seen.start.shape.passes ≤ kept.1 = subst (λ (s : Start). s.shape.passes ≤ kept.1) (sym call.made.same.2) few in (
       kept.0,
       kept.1,
       kept.2,

@@ -9,14 +9,21 @@ use Rattle.std.specs.Option.{option_map, option_to_list}
 use Rattle.running.specs.Running.{numbers_from, upto}
 use Rattle.fn_core.specs.Calls.{CoreLog, IsIdle}
 use Rattle.fn_table.specs.Seen.{TableView, PassView, IsOf}
+use Rattle.fn_table.specs.Claims.{Rests}
 use Rattle.running.proofs.Numbers.{numbers_first}
 use Rattle.fn_core.specs.declared.Start.{Start}
 use Rattle.quota_pool.specs.declared.closing.Closing.{Closing}
 use Rattle.quota_pool.specs.declared.tenants.Tenant.{Tenant}
 use Rattle.quota_pool.specs.Views.{PoolView, DeskView, Belongs}
 use Rattle.quota_pool.specs.Rooms.{IsBare, HasPlace, KeepsRoom, IsEmptyFor, funnels, rooms, rooms_after}
-use Rattle.quota_pool.specs.Closed.{passes_at, MayClose, ClosesWith, AreClosedFrom, AreClosed}
+use Rattle.quota_pool.specs.Closed.{passes_at, MayClose, ClosesWith, AreClosedFrom}
 use Rattle.quota_pool.proofs.RoomSteps.{all_less, rooms_at}
+
+-- The books are those of the pool's tables, in order, each closed with the desks' passes at its tenant
+pub record EachCloses (pool : PoolView) (desks : List DeskView) (books : List CoreLog) : Type 0 where
+  pub tenants : length books ≡ length pool.tables
+  pub each : (tenant : ℕ) (table : TableView) (book : CoreLog) → slice_get pool.tables tenant ≡ Some table → slice_get books tenant ≡ Some book
+      → ClosesWith table (passes_at tenant desks) book
 
 -- one more element of which something holds
 pub all_more : {A : Type 0} (P : A → Type 0) (x : A) (xs : List A) → P x → All P xs → All P (x ∷ xs)
@@ -38,7 +45,7 @@ count_of_desks ds workers all = sym (length-map ds (λ d. d.worker)) ∙ ap leng
 
 module _ (pool : PoolView) (t : ℕ) (table : TableView) (here : slice_get pool.tables t ≡ Some table) where
   -- the desk's pass there
-  its_pass : (d : DeskView) → Belongs pool d → (p : PassView) × (slice_get d.passes t ≡ Some p) × IsOf table p × (p.number ≡ d.worker) × IsIdle p.seen p.number
+  pub its_pass : (d : DeskView) → Belongs pool d → (p : PassView) × (slice_get d.passes t ≡ Some p) × IsOf table p × (p.number ≡ d.worker) × Rests p
   its_pass d belongs =
       let within : t < length d.passes = omega (arith, belongs.tenants, slice_get_within pool.tables t table here) in
       let found = found_at d.passes t within in
@@ -122,7 +129,7 @@ module _ (workers : ℕ) (old new : List Tenant) (ds : List DeskView) (empty : A
   closed_at (x ∷ ts) (b ∷ bs) (suc i) t book closed at there = closed_at ts bs i t book closed.1 at there
 
   -- so the books are the pool's
-  all_closed : (books : List CoreLog) → AreClosedFrom new books → AreClosed pool ds books
+  all_closed : (books : List CoreLog) → AreClosedFrom new books → EachCloses pool ds books
   all_closed books closed = record {
     tenants = length_closed new books closed ∙ sym (length-map new (λ (v : Tenant). v.funnel)) ∙ ap length tables;
     each = λ t table book here there.
@@ -224,6 +231,6 @@ module _ (self : PoolView) (v : Vec Tenant Global) (shown new : List Tenant) (ds
       let here : All (Belongs (record { workers = self.workers; tables = funnels v.items })) ds = subst (λ (p : PoolView). All (Belongs p) ds) (sym shows) together in
       subst Ready (sym whole) (all_may_close self.workers v.items new ds empty tables_now rooms_now here numbers)
 
-  pub pool_closed : (books : List CoreLog) → AreClosedFrom (with_items v new).items books → AreClosed self ds books
+  pub pool_closed : (books : List CoreLog) → AreClosedFrom (with_items v new).items books → EachCloses self ds books
   pool_closed books closed =
-      subst (λ (p : PoolView). AreClosed p ds books) shows (all_closed self.workers v.items new ds empty tables_now rooms_now books (subst (λ (ts : List Tenant). AreClosedFrom ts books) whole closed))
+      subst (λ (p : PoolView). EachCloses p ds books) shows (all_closed self.workers v.items new ds empty tables_now rooms_now books (subst (λ (ts : List Tenant). AreClosedFrom ts books) whole closed))

@@ -1,3 +1,4 @@
+pub mod Books
 pub mod Calling
 pub mod Closes
 pub mod Opens

@@ -12,9 +12,10 @@ use Rattle.running.specs.Running.{numbers_from, upto}
 use Rattle.fn_core.specs.declared.Start.{Start}
 use Rattle.fn_core.specs.State.{State, history_in}
 use Rattle.fn_core.specs.State as first
-use Rattle.fn_core.specs.Calls.{calls_in, IsIdle, newly_opened}
+use Rattle.fn_core.specs.Calls.{calls_in, newly_opened}
 use Rattle.fn_layout.specs.declared.shape.Shape.{Shape}
 use Rattle.fn_table.specs.Seen.{TableView, PassView, IsOf, IsWhole, fresh, fresh_passes, AreOpened}
+use Rattle.fn_table.specs.Claims.{Rests}
 use Rattle.fn_table.proofs.Glances.{glances_run}
 use Rattle.fn_layout.specs.Workers.{IsShapeFor}
 use Rattle.fn_model.specs.declared.TheConstants.{NO_CAP}
@@ -78,7 +79,7 @@ fresh_whole table passes worker opened below =
 pub opens_new : (workers opening cap : ℕ) (plan : List ℕ) (shape : Shape) (table : TableView) (passes : List PassView) → IsShapeFor workers shape → table.start ≡ (newly_opened shape opening cap plan).start → AreOpened table passes → IsOpen workers opening cap plan table
 opens_new workers opening cap plan shape table passes is start opened = let passes_are : table.start.shape.passes ≡ workers = ap (λ (s : Start). s.shape.passes) start ∙ is.0 in record {
   opens = record { has_shape = subst (λ (s : Shape). IsShapeFor workers s) (sym (ap (λ (s : Start). s.shape) start)) is; has_opening = ap (λ (s : Start). s.opening) start; has_cap = ap (λ (s : Start). s.cap) start; has_plan = ap (λ (s : Start). s.allowances) start };
-  new = λ worker below. (fresh_whole table passes worker opened (omega (arith, below, passes_are)), nothing_seen table worker);
+  new = λ worker below. let whole = fresh_whole table passes worker opened (omega (arith, below, passes_are)) in (whole.0, whole.1, nothing_seen table worker);
 }
 
 -- the desks of a pool that has just been opened are its own, and their passes are new
@@ -99,8 +100,8 @@ module _ (workers : ℕ) (openings caps : List ℕ) (plans : List (List ℕ)) (t
     tenants = length-map tables (λ table. fresh table worker);
     worker = below;
     each = λ t table pass here there.
-        let Stands : PassView → Type 0 = λ p. IsOf table p × (p.number ≡ worker) × IsIdle p.seen p.number in
-        let stands : Stands (fresh table worker) = ((refl, refl), refl, (new_at worker t table below here).0.0) in
+        let Stands : PassView → Type 0 = λ p. IsOf table p × (p.number ≡ worker) × Rests p in
+        let stands : Stands (fresh table worker) = ((refl, refl), refl, (new_at worker t table below here).0) in
         subst Stands (pass_at worker t table pass here there) stands;
   }
 

@@ -1,10 +1,10 @@
--- What a call of a desk tells.
+-- How a desk makes a call.
 --     GoesPast pass kind amount reply after      the call went to the main word by itself
 --     GoesOnWay through pass kind amount reply way after      how the call went, and what its way says of that
 --     EntersBy way core call      how the call has entered the main word
---     Called pass kind through amount answer after      the pass made exactly this call, with this answer
---     CallsAt pool old tenant kind through amount answer new      the desk made exactly this call, at this tenant
-use Rattle.std.specs.Prelude.{◌≡◌, ℕ, slice_get, slice_set, Bool, true, false, Option, Some, None}
+--     Called pass kind through amount answer after      the pass made exactly this call, with this answer, in this way
+--     WentAt old tenant kind through amount answer new      so did the desk's pass at this tenant
+use Rattle.std.specs.Prelude.{◌≡◌, ℕ, slice_get, Bool, true, false, Option, Some, None}
 use Rattle.fn_model.specs.declared.Call.{Call}
 use Rattle.fn_model.specs.declared.Kind.{Kind}
 use Rattle.fn_model.specs.declared.Kind.TheVariants.{Add, Sub, Read}
@@ -19,7 +19,7 @@ use Rattle.fn_table.specs.Called.{call_of, HasCalled}
 use Rattle.fn_funnel.specs.declared.waiting.Way.{Way}
 use Rattle.fn_funnel.specs.Waiting.{GoesBy, IsStraight, is_one_step, HasEntered}
 use Rattle.quota_pool.specs.declared.moved.Moved.{Moved}
-use Rattle.quota_pool.specs.Views.{PoolView, DeskView, Belongs}
+use Rattle.quota_pool.specs.Views.{DeskView}
 
 -- the call went to the main word by itself: a read is one load, an addition is one step where no addition stops, and else loads and exchanges up to the one that won
 abbrev pub GoesPast : PassView → Kind → ℕ → ℕ → PassView → Type 0
@@ -47,11 +47,7 @@ pub record Called (p : PassView) (kind : Kind) (through : Bool) (amount : ℕ) (
   pub way : GoesOnWay through p kind amount answer.before answer.way q
   pub entered : EntersBy answer.way q.seen (call_of p kind amount)
 
--- The desk made exactly this call, by its pass at this tenant; its other passes stand as before, and it is still one of the pool
-pub record CallsAt (pool : PoolView) (old : DeskView) (tenant : ℕ) (kind : Kind) (through : Bool) (amount : ℕ) (answer : Moved) (new : DeskView) : Type 0 where
-  pub pass : PassView
-  pub after : PassView
-  pub at : slice_get old.passes tenant ≡ Some pass
-  pub called : Called pass kind through amount answer after
-  pub desk : new ≡ record { worker = old.worker; passes = slice_set old.passes tenant after }
-  pub together : Belongs pool new
+-- the pass that the desk had at this tenant made the call in this way, and is the one that it has there now
+abbrev pub WentAt : DeskView → ℕ → Kind → Bool → ℕ → Moved → DeskView → Type 0
+WentAt old tenant kind through amount answer new =
+    (pass after : PassView) → slice_get old.passes tenant ≡ Some pass → slice_get new.passes tenant ≡ Some after → Called pass kind through amount answer after

@@ -1,14 +1,14 @@
--- What the books of a closed pool tell.
+-- How a pool is closed.
 --     passes_at tenant desks      the desks' passes at a tenant
 --     MayClose table passes, ClosesWith table passes book      what the closing of a table needs, and what it tells
---     AreClosed pool desks books      the books of a pool
-use Rattle.std.specs.Prelude.{◌≡◌, ℕ, ⊤, All, List, [], ◌∷◌, length, flat_map, slice_get, Some}
+--     AreClosed desks books      each tenant's book is the logs of its passes, put together
+use Rattle.std.specs.Prelude.{◌≡◌, ℕ, ⊤, All, List, [], ◌∷◌, flat_map, slice_get, Some}
 use Rattle.std.specs.Option.{option_to_list}
 use Rattle.fn_model.specs.Calls.{own}
 use Rattle.fn_core.specs.Calls.{CoreLog, calls_in, IsIdle}
 use Rattle.fn_table.specs.Seen.{TableView, PassView, IsOf, AreAll, IsClosed}
 use Rattle.quota_pool.specs.declared.tenants.Tenant.{Tenant}
-use Rattle.quota_pool.specs.Views.{PoolView, DeskView}
+use Rattle.quota_pool.specs.Views.{DeskView}
 
 -- the desks' passes at a tenant, in order of the desks
 abbrev pub passes_at : ℕ → List DeskView → List PassView
@@ -32,8 +32,6 @@ AreClosedFrom [] [] = ⊤
 AreClosedFrom (tenant ∷ tenants) (book ∷ books) = ClosesWith tenant.funnel tenant.room.items book × AreClosedFrom tenants books
 AreClosedFrom _ _ = ⊥
 
--- The books are those of the pool's tables, in order, each closed with the desks' passes at its tenant
-pub record AreClosed (pool : PoolView) (desks : List DeskView) (books : List CoreLog) : Type 0 where
-  pub tenants : length books ≡ length pool.tables
-  pub each : (tenant : ℕ) (table : TableView) (book : CoreLog) → slice_get pool.tables tenant ≡ Some table → slice_get books tenant ≡ Some book
-      → ClosesWith table (passes_at tenant desks) book
+-- each tenant's book is the logs of the desks' passes there, put together
+abbrev pub AreClosed : List DeskView → List CoreLog → Type 0
+AreClosed desks books = (tenant : ℕ) (book : CoreLog) → slice_get books tenant ≡ Some book → IsClosed (passes_at tenant desks) book

@@ -1,4 +1,5 @@
 pub mod Views
+pub mod Claims
 pub mod Calls
 pub mod Faults
 pub mod Opened

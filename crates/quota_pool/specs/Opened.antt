@@ -4,8 +4,8 @@
 --     IsOpened openings caps workers plans pool desks      a pool and its desks
 use Rattle.std.specs.Prelude.{◌≡◌, ◌<◌, ℕ, List, [], ◌∷◌, ◌++◌, length, map, slice_get, slice_index, slice_index_or, Some, All}
 use Rattle.running.specs.Running.{upto}
-use Rattle.fn_core.specs.Calls.{calls_in}
-use Rattle.fn_table.specs.Seen.{TableView, PassView, IsWhole, fresh}
+use Rattle.fn_table.specs.Seen.{TableView, PassView, fresh}
+use Rattle.fn_table.specs.Claims.{past, left, Rests}
 use Rattle.fn_layout.specs.Workers.{IsShapeFor}
 use Rattle.quota_pool.specs.Views.{PoolView, DeskView, Belongs}
 
@@ -22,7 +22,7 @@ pub record OpensWith (workers opening cap : ℕ) (plan : List ℕ) (table : Tabl
 
 -- the pass makes no call, nobody's call has entered the history that it has seen, and it has its whole allowance
 abbrev pub IsNew : PassView → Type 0
-IsNew p = IsWhole p × (calls_in p.seen ≡ [])
+IsNew p = Rests p × (left p ≡ slice_index p.seen.start.allowances p.number) × (past p ≡ [])
 
 -- A table was opened with these numbers, and its passes are new
 pub record IsOpen (workers opening cap : ℕ) (plan : List ℕ) (table : TableView) : Type 0 where

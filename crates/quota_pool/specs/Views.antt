@@ -4,8 +4,8 @@
 --     Belongs pool desk      the desk is one of the pool
 --     left_at desk tenant      what the desk has left of its allowance at a tenant
 use Rattle.std.specs.Prelude.{◌≡◌, ℕ, ◌<◌, ◌≤◌, List, [], ◌∷◌, length, map, slice_get, Option, Some, None}
-use Rattle.fn_core.specs.Calls.{IsIdle, left_of}
 use Rattle.fn_table.specs.Seen.{TableView, PassView, IsOf}
+use Rattle.fn_table.specs.Claims.{left, Rests}
 
 -- a pool: how many workers it has, and the table of each tenant
 pub record PoolView : Type 0 where
@@ -32,12 +32,12 @@ pub record Belongs (pool : PoolView) (desk : DeskView) : Type 0 where
   pub tenants : length desk.passes ≡ length pool.tables
   pub worker : desk.worker < pool.workers
   pub each : (tenant : ℕ) (table : TableView) (pass : PassView) → slice_get pool.tables tenant ≡ Some table → slice_get desk.passes tenant ≡ Some pass
-      → IsOf table pass × (pass.number ≡ desk.worker) × IsIdle pass.seen pass.number
+      → IsOf table pass × (pass.number ≡ desk.worker) × Rests pass
 
 -- what a pass has left of its allowance, and 0 without a pass
 abbrev pub left_in : Option PassView → ℕ
 left_in None = 0
-left_in (Some pass) = left_of pass.seen pass.number
+left_in (Some pass) = left pass
 
 -- what a desk has left of its allowance at a tenant
 abbrev pub left_at : DeskView → ℕ → ℕ

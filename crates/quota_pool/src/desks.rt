@@ -2,7 +2,8 @@
 ghost use Rattle.std.specs.Prelude.{◌≡◌, ◌<◌, ◌≤◌, length, true, false};
 ghost use Rattle.fn_model.specs.declared.Kind.TheVariants.{Add, Sub, Read};
 ghost use Rattle.quota_pool.specs.Views.{Belongs, MayMove, left_at};
-ghost use Rattle.quota_pool.specs.Calls.{CallsAt};
+ghost use Rattle.quota_pool.specs.Claims.{MadeAt};
+ghost use Rattle.quota_pool.specs.Calls.{WentAt};
 
 use crate::closing::Closing;
 use crate::moved::Moved;
@@ -45,7 +46,8 @@ impl Desk {
         requires together { Belongs pool.now self.old }
         requires tenant { tenant < length self.old.passes }
         requires amount { MayMove self.old tenant amount }
-        ensures { CallsAt pool.now self.old tenant Add true amount result self.new }
+        ensures made { MadeAt pool.now self.old tenant Add amount result self.new }
+        ensures way { WentAt self.old tenant Add true amount result self.new }
     {
         self.seats.add(rt, pool, tenant, amount)
     }
@@ -55,7 +57,8 @@ impl Desk {
         requires together { Belongs pool.now self.old }
         requires tenant { tenant < length self.old.passes }
         requires amount { MayMove self.old tenant amount }
-        ensures { CallsAt pool.now self.old tenant Sub true amount result self.new }
+        ensures made { MadeAt pool.now self.old tenant Sub amount result self.new }
+        ensures way { WentAt self.old tenant Sub true amount result self.new }
     {
         self.seats.take(rt, pool, tenant, amount)
     }
@@ -65,7 +68,8 @@ impl Desk {
         requires together { Belongs pool.now self.old }
         requires tenant { tenant < length self.old.passes }
         requires amount { MayMove self.old tenant amount }
-        ensures { CallsAt pool.now self.old tenant Add false amount result self.new }
+        ensures made { MadeAt pool.now self.old tenant Add amount result self.new }
+        ensures way { WentAt self.old tenant Add false amount result self.new }
     {
         self.seats.direct(rt, pool, tenant, amount)
     }
@@ -74,7 +78,8 @@ impl Desk {
     pub fn read(&mut self, pool: &QuotaPool, tenant: u32) -> Moved
         requires together { Belongs pool.now self.old }
         requires tenant { tenant < length self.old.passes }
-        ensures { CallsAt pool.now self.old tenant Read false 0 result self.new }
+        ensures made { MadeAt pool.now self.old tenant Read 0 result self.new }
+        ensures way { WentAt self.old tenant Read false 0 result self.new }
     {
         self.seats.read(pool, tenant)
     }

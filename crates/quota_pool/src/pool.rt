@@ -5,6 +5,7 @@ ghost use Rattle.fn_model.specs.declared.TheConstants.{NO_CAP};
 ghost use Rattle.quota_pool.specs.Views.{Belongs};
 ghost use Rattle.quota_pool.specs.Faults.{pool_fault, TellsFault};
 ghost use Rattle.quota_pool.specs.Opened.{IsOpened};
+ghost use Rattle.quota_pool.specs.Claims.{TellsBooks};
 ghost use Rattle.quota_pool.specs.Closed.{AreClosed};
 
 use crate::checks::{above_cap, too_much};
@@ -102,7 +103,8 @@ impl QuotaPool {
     pub fn close(self, desks: Vec<Desk>) -> Vec<Book>
         requires together { All (Belongs self) desks.items }
         requires all { map (λ desk. desk.worker) desks.items ≡ upto self.workers }
-        ensures { AreClosed self desks.items result.items }
+        ensures told { TellsBooks self desks.items result.items }
+        ensures closed { AreClosed desks.items result.items }
     {
         let QuotaPool {
             workers: _,

@@ -2,7 +2,8 @@
 ghost use Rattle.std.specs.Prelude.{◌≡◌, ◌<◌, ◌≤◌, length, slice_get, slice_set, None, Some, true, false};
 ghost use Rattle.fn_model.specs.declared.Kind.TheVariants.{Add, Sub, Read};
 ghost use Rattle.quota_pool.specs.Views.{AreFull, Belongs, MayMove, held, left_at};
-ghost use Rattle.quota_pool.specs.Calls.{CallsAt};
+ghost use Rattle.quota_pool.specs.Claims.{MadeAt};
+ghost use Rattle.quota_pool.specs.Calls.{WentAt};
 
 use crate::moved::Moved;
 use crate::pool::QuotaPool;
@@ -66,7 +67,8 @@ impl Seats {
         requires together { Belongs pool.now self.old }
         requires tenant { tenant < length self.old.passes }
         requires amount { MayMove self.old tenant amount }
-        ensures { CallsAt pool.now self.old tenant Add true amount result self.new }
+        ensures made { MadeAt pool.now self.old tenant Add amount result self.new }
+        ensures way { WentAt self.old tenant Add true amount result self.new }
     {
         let at = tenant as usize;
         let funnel = pool.funnel(at);
@@ -85,7 +87,8 @@ impl Seats {
         requires together { Belongs pool.now self.old }
         requires tenant { tenant < length self.old.passes }
         requires amount { MayMove self.old tenant amount }
-        ensures { CallsAt pool.now self.old tenant Sub true amount result self.new }
+        ensures made { MadeAt pool.now self.old tenant Sub amount result self.new }
+        ensures way { WentAt self.old tenant Sub true amount result self.new }
     {
         let at = tenant as usize;
         let pass = take_at(&mut self.passes, at);
@@ -103,7 +106,8 @@ impl Seats {
         requires together { Belongs pool.now self.old }
         requires tenant { tenant < length self.old.passes }
         requires amount { MayMove self.old tenant amount }
-        ensures { CallsAt pool.now self.old tenant Add false amount result self.new }
+        ensures made { MadeAt pool.now self.old tenant Add amount result self.new }
+        ensures way { WentAt self.old tenant Add false amount result self.new }
     {
         let at = tenant as usize;
         let funnel = pool.funnel(at);
@@ -121,7 +125,8 @@ impl Seats {
     pub fn read(&mut self, pool: &QuotaPool, tenant: u32) -> Moved
         requires together { Belongs pool.now self.old }
         requires tenant { tenant < length self.old.passes }
-        ensures { CallsAt pool.now self.old tenant Read false 0 result self.new }
+        ensures made { MadeAt pool.now self.old tenant Read 0 result self.new }
+        ensures way { WentAt self.old tenant Read false 0 result self.new }
     {
         let at = tenant as usize;
         let mut pass = take_at(&mut self.passes, at);

@@ -1,6 +1,7 @@
 -- A history behind an earlier one: its calls' numbers are raised by the calls that their passes have made before, and what is told of it is told of it there.
 use Rattle.std.proofs.Common.{◌≡◌, ◌+◌, ◌==◌, ℕ, List, ◌++◌, length, take, map, get_or, Some, refl, sym, ap, ◌∙◌, subst, arith, append_assoc}
-use Rattle.std.proofs.lemmas.List.{length-map, length-append, map-append, take-map, get_or-append-add}
+use Rattle.std.proofs.lemmas.List.{length-map, length-append, map-append, take-map, get_or_append_left, get_or-append-add}
+use mathlib.Core.List.{IsPrefix}
 use Rattle.std.proofs.lemmas.List.Elements.{filter-append}
 use Rattle.std.proofs.lemmas.Option.{slice_get-map, slice_get-get_or, get_or_from_slice_get}
 use Rattle.std.specs.Option.{option_map}
@@ -16,7 +17,7 @@ use Rattle.replay_run.specs.Segments.{is_of, rows_of, call_of, call_after, calls
 use Rattle.replay_run.specs.Claim.{AreCallsOf, Answers, Settles}
 use Rattle.replay_run.proofs.Numbered.{length_calls}
 use Rattle.replay_run.proofs.Raised.{raised, calls_append, rows_mine, no_call_past, place_behind, place-raised, value-raised, own-raised, calls-raised}
-use Rattle.replay_run.proofs.Shifts.{get_first, take_later}
+use Rattle.replay_run.proofs.Shifts.{take_later}
 
 -- the calls that a pass has made
 abbrev pub made_in : List Call → ℕ → ℕ
@@ -34,21 +35,16 @@ left_by tenant past = record tenant { opening = value tenant.cap tenant.opening 
 pub value_behind : (cap opening : ℕ) (past history : List Call) → value cap opening (behind past history) ≡ value cap (value cap opening past) history
 value_behind cap opening past history = value-append cap opening past (map (raised (made_in past)) history) ∙ value-raised (made_in past) cap (value cap opening past) history
 
--- a call's answer is the same where more calls follow
+-- a call meets the same where more calls follow
+pub meets_later : (cap opening : ℕ) (past later : List Call) → IsPrefix past later → (call : Call) (n : ℕ) → Meets cap opening past call n → Meets cap opening later call n
+meets_later cap opening past later (more, all) call n meets =
+    let stays = reply_stays cap opening call.pass call.number past more meets.0 meets.1 in
+    subst (λ (calls : List Call). Meets cap opening calls call n) all
+    (meets.0, stays.0, omega (arith, meets.2, length-append past more), get_or_append_left past more call meets.0 meets.2 ∙ meets.3, stays.1 ∙ meets.4)
+
+-- so its answer stays
 pub answers_stay : (tenant : Tenant) (past more : List Call) (call : Call) (answer : Moved) → Answers tenant past call answer → Answers tenant (past ++ more) call answer
-answers_stay tenant past more call answer has =
-    let i : ℕ = has.met.0 in
-    let stays = reply_stays tenant.cap tenant.opening call.pass call.number past more i has.met.1 in
-    record {
-      met = (
-        i,
-        stays.0,
-        omega (arith, has.met.2, length-append past more),
-        get_or_from_slice_get (past ++ more) i call call (get_first past more i has.met.2 ∙ slice_get-get_or past i call has.met.2 ∙ ap Some has.met.3),
-        stays.1 ∙ has.met.4,
-      );
-      moved = has.moved;
-    }
+answers_stay tenant past more call answer has = record { met = meets_later tenant.cap tenant.opening past (past ++ more) (more, refl) call answer.before has.met; moved = has.moved }
 
 -- what a call meets by itself it meets behind earlier calls, where none of these is that call
 meets_behind : (cap opening : ℕ) (past history : List Call) (call : Call) (n : ℕ) → count call.pass (made_in past call.pass + call.number) past ≡ 0

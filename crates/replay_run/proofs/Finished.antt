@@ -7,6 +7,7 @@ use Rattle.std.specs.Vec.{with_items}
 use Rattle.running.specs.Running.{upto}
 use Rattle.fn_core.specs.Calls.{CoreLog}
 use Rattle.quota_pool.specs.Views.{PoolView, DeskView, Belongs}
+use Rattle.quota_pool.specs.Claims.{TellsBooks}
 use Rattle.quota_pool.specs.Closed.{AreClosed}
 use Rattle.quota_pool.specs.declared.moved.Moved.{Moved}
 use Rattle.quota_pool.proofs.Closes.{found_at}
@@ -66,21 +67,21 @@ module _ (workers : ℕ) (tenants : List Tenant) (caps openings : List ℕ) (row
     pub all_done : map (λ (d : DeskView). d.worker) (desks_in done) ≡ upto pool.workers
     all_done = still_all workers caps openings rows pool v.items sound ready done long so
 
-    module _ (books : List CoreLog) (closed : AreClosed pool (desks_in done) books) where
+    module _ (books : List CoreLog) (told : TellsBooks pool (desks_in done) books) (closed : AreClosed (desks_in done) books) where
       count_books : length books ≡ length tenants
-      count_books = closed.tenants ∙ ready.opened.tenants ∙ sound.one_each ∙ ap length same ∙ length-map tenants (λ (t : Tenant). t.cap)
+      count_books = told.tenants ∙ ready.opened.tenants ∙ sound.one_each ∙ ap length same ∙ length-map tenants (λ (t : Tenant). t.cap)
 
       each_book : (t : ℕ) (tenant : Tenant) (book : CoreLog) → slice_get tenants t ≡ Some tenant → slice_get books t ≡ Some book → IsBook workers tenant.cap (get_or openings t 0) t rows book
       each_book t tenant book here there =
-          let table = found_at pool.tables t (omega (arith, slice_get_within books t book there, closed.tenants)) in
+          let table = found_at pool.tables t (omega (arith, slice_get_within books t book there, told.tenants)) in
           let cap : get_or caps t 0 ≡ tenant.cap =
           ap (λ (cs : List ℕ). get_or cs t 0) same ∙ get_or-map (λ (x : Tenant). x.cap) tenants t tenant 0 (slice_get_within tenants t tenant here) ∙ ap (λ (x : Tenant). x.cap) (get_or_from_slice_get tenants t tenant tenant here) in
-          subst (λ (n : ℕ). IsBook workers n (get_or openings t 0) t rows book) cap (is_book workers caps openings rows pool v.items sound ready done long so books closed t table.0 book table.1 there)
+          subst (λ (n : ℕ). IsBook workers n (get_or openings t 0) t rows book) cap (is_book workers caps openings rows pool v.items sound ready done long so books told closed t table.0 book table.1 there)
 
       each_answer : (k : ℕ) (row : Row) (answer : Moved) (book : CoreLog) → slice_get rows k ≡ Some row → slice_get (gathered rows done) k ≡ Some answer → slice_get books row.tenant ≡ Some book → IsAnswered (take k rows) row answer book
       each_answer k row answer book here got there =
-          let table = found_at pool.tables row.tenant (omega (arith, slice_get_within books row.tenant book there, closed.tenants)) in
-          is_answered workers caps openings rows pool v.items sound ready done long so books closed row.tenant table.0 book table.1 there k row answer here got refl
+          let table = found_at pool.tables row.tenant (omega (arith, slice_get_within books row.tenant book there, told.tenants)) in
+          is_answered workers caps openings rows pool v.items sound ready done long so books told closed row.tenant table.0 book table.1 there k row answer here got refl
 
       pub adds : (old new : List Moved) → new ≡ old ++ gathered rows done → Adds workers tenants openings rows old new books
       adds old new is_new = record {

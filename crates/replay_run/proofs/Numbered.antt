@@ -2,7 +2,6 @@
 use Rattle.std.proofs.Common.{◌≡◌, ◌≢◌, ◌+◌, ◌==◌, ◌&&◌, ℕ, suc, Bool, List, [], ◌∷◌, ◌++◌, length, true, false, cond, refl, sym, ap, ◌∙◌, arith, eq-eqb, ne_eqb, append-nil}
 use Rattle.std.proofs.lemmas.List.Elements.{filter-append}
 use Rattle.fn_model.specs.declared.Call.{Call}
-use Rattle.fn_core.specs.Laws.{AreNumbered}
 use Rattle.trace_text.specs.declared.traces.Row.{Row}
 use Rattle.replay_run.specs.Segments.{is_of, rows_of, call_of, calls_from}
 use Rattle.replay_run.specs.Work.{of_worker}
@@ -17,11 +16,6 @@ calls_push n [] row = ap (λ m. call_of m row ∷ []) (let e : n ≡ n + 0 = ome
 calls_push n (first ∷ rows) row =
     let e : suc n + length rows ≡ n + suc (length rows) = omega arith in
     ap (λ (calls : List Call). call_of n first ∷ calls) (calls_push (suc n) rows row ∙ ap (λ m. calls_from (suc n) rows ++ call_of m row ∷ []) e)
-
--- the last of numbered calls has the number of those before it
-pub last_number : (n : ℕ) (calls : List Call) (call : Call) → AreNumbered n (calls ++ call ∷ []) → call.number ≡ n + length calls
-last_number n [] call numbered = let e : call.number ≡ n = numbered.0 in omega (arith, e)
-last_number n (first ∷ calls) call numbered = let e = last_number (suc n) calls call numbered.1 in omega (arith, e)
 
 module _ (worker tenant : ℕ) (earlier : List Row) (row : Row) where
   abbrev kept : Bool → List Row

@@ -5,14 +5,14 @@ use Rattle.std.proofs.lemmas.List.Sums.{sum_by-cons}
 use Rattle.std.proofs.lemmas.List.Elements.{All-head, All-tail}
 use Rattle.std.proofs.lemmas.Option.{slice_get_within}
 use Rattle.fn_model.proofs.Lists.{slice_get-set_same}
-use Rattle.fn_core.specs.Calls.{left_of}
+use Rattle.fn_table.specs.Claims.{left}
 use Rattle.quota_pool.specs.Views.{PoolView, DeskView, left_at, left_in}
-use Rattle.quota_pool.specs.Calls.{CallsAt}
+use Rattle.quota_pool.specs.Claims.{MadeAt}
 use Rattle.quota_pool.specs.declared.moved.Moved.{Moved}
 use Rattle.trace_text.specs.SoundTrace.{IsSoundRow, amounts}
 use Rattle.trace_text.specs.declared.traces.Row.{Row}
 use Rattle.replay_run.specs.declared.places.Job.{Job}
-use Rattle.replay_run.specs.Segments.{kind_of, goes_through}
+use Rattle.replay_run.specs.Segments.{kind_of}
 use Rattle.replay_run.specs.Work.{rows_in, MayRun, Called, Ran}
 
 -- one call more
@@ -51,24 +51,23 @@ first_tenant pool desk row rows may = let sound = All-head (IsSoundRow pool.work
 
 -- .. and after its call the others
 pub may_more : (pool : PoolView) (desk : DeskView) (row : Row) (rows : List Row) (answer : Moved) (next : DeskView) → MayRun pool desk (row ∷ rows)
-    → CallsAt pool desk row.tenant (kind_of row.op) (goes_through row.op) row.amount answer next → MayRun pool next rows
-may_more pool desk row rows answer next may calls = record {
-  together = calls.together;
+    → MadeAt pool desk row.tenant (kind_of row.op) row.amount answer next → MayRun pool next rows
+may_more pool desk row rows answer next may call = record {
+  together = call.together;
   sound = All-tail (IsSoundRow pool.workers (length pool.tables)) row rows may.sound;
   left = λ tenant.
       let more = sum_by-cons (asks tenant) row rows in
       elim (cases_eq tenant row.tenant) [
         | inl same ↦
-            let inside : row.tenant < length desk.passes = slice_get_within desk.passes row.tenant calls.pass calls.at in
-            let now : left_at next row.tenant ≡ left_of calls.after.seen calls.pass.number =
-            ap (λ (d : DeskView). left_at d row.tenant) calls.desk ∙ ap left_in (slice_get-set_same desk.passes row.tenant calls.after inside) ∙ ap (left_of calls.after.seen) calls.called.later.number in
-            let was : left_at desk row.tenant ≡ left_of calls.pass.seen calls.pass.number = ap left_in calls.at in
+            let inside : row.tenant < length desk.passes = slice_get_within desk.passes row.tenant call.pass call.at in
+            let now : left_at next row.tenant ≡ left call.after = ap (λ (d : DeskView). left_at d row.tenant) call.desk ∙ ap left_in (slice_get-set_same desk.passes row.tenant call.after inside) in
+            let was : left_at desk row.tenant ≡ left call.pass = ap left_in call.at in
             let all = may.left row.tenant in
             let own = sum_by-cons (asks row.tenant) row rows in
-            let enough : amounts row.tenant rows ≤ left_at next row.tenant = omega (arith, now, was, all, own, asks_own row, calls.called.called.spent) in
+            let enough : amounts row.tenant rows ≤ left_at next row.tenant = omega (arith, now, was, all, own, asks_own row, call.made.spent) in
             subst (λ t. amounts t rows ≤ left_at next t) (sym same) enough
         | inr other ↦
-            let still : left_at next tenant ≡ left_at desk tenant = ap (λ (d : DeskView). left_at d tenant) calls.desk ∙ ap left_in (other_place desk.passes row.tenant tenant calls.after other) in
+            let still : left_at next tenant ≡ left_at desk tenant = ap (λ (d : DeskView). left_at d tenant) call.desk ∙ ap left_in (other_place desk.passes row.tenant tenant call.after other) in
             omega (arith, still, may.left tenant, more)
       ];
 }

@@ -6,21 +6,18 @@ use Rattle.std.proofs.lemmas.List.Elements.{All-head, All-tail, All-same, All-fi
 use Rattle.std.proofs.lemmas.List.Sums.{sum_by-cons}
 use Rattle.std.proofs.lemmas.Option.{none-some, same_Some, slice_get_cases, slice_get_within, slice_get-map, slice_get-get_or, get_or_from_slice_get}
 use Rattle.std.specs.List.{All}
-use Rattle.std.specs.Option.{option_map, option_to_list}
+use Rattle.std.specs.Option.{option_map}
 use mathlib.Core.List.{IsPrefix}
 use Rattle.running.specs.Running.{numbers_from, upto}
-use Rattle.running.proofs.Logs.{prefix_more}
 use Rattle.fn_model.specs.declared.Call.{Call}
 use Rattle.fn_model.specs.Calls.{own}
-use Rattle.fn_model.proofs.Calls.{reply_stays}
-use Rattle.fn_core.specs.declared.Event.{Event}
+use Rattle.fn_model.specs.Integer.{Meets}
 use Rattle.fn_core.specs.declared.Start.{Start}
-use Rattle.fn_core.specs.Laws.{HasReply}
 use Rattle.fn_core.specs.Calls.{CoreLog, calls_in, IsLegal}
 use Rattle.fn_core.proofs.Orders.{histories_go_on}
-use Rattle.std.proofs.lemmas.List.{length-append, get_or_append_left}
-use Rattle.fn_core.specs.declared.Move.TheVariants.{Glance}
-use Rattle.fn_table.specs.Seen.{TableView, PassView, fresh, event}
+use Rattle.fn_table.specs.Seen.{TableView, PassView, IsClosed, fresh}
+use Rattle.fn_table.specs.Called.{call_of as next_call}
+use Rattle.fn_table.specs.Claims.{past}
 use Rattle.fn_layout.specs.Workers.{IsShapeFor}
 use Rattle.fn_funnel.specs.declared.waiting.Way.{Way}
 use Rattle.fn_funnel.proofs.Calls.{entered_stays}
@@ -29,21 +26,23 @@ use Rattle.quota_pool.specs.Calls.{EntersBy}
 use Rattle.running.proofs.Logs.{prefix_on}
 use Rattle.quota_pool.specs.Views.{PoolView, DeskView, Belongs, left_at, left_in}
 use Rattle.quota_pool.specs.Opened.{fresh_desk, OpensWith, IsNew}
-use Rattle.quota_pool.specs.Closed.{passes_at, ClosesWith, AreClosed}
+use Rattle.quota_pool.specs.Claims.{HasCallsOf, TellsBook, TellsBooks}
+use Rattle.quota_pool.specs.Closed.{passes_at, AreClosed}
 use Rattle.quota_pool.specs.declared.moved.Moved.{Moved}
-use Rattle.quota_pool.proofs.Closes.{length_numbers, found_at}
+use Rattle.quota_pool.proofs.Books.{seen_in_book}
+use Rattle.quota_pool.proofs.Closes.{length_numbers}
 use Rattle.trace_text.specs.SoundTrace.{IsSoundRow, amounts}
 use Rattle.trace_text.specs.declared.traces.Row.{Row}
 use Rattle.replay_run.specs.declared.places.Job.{Job}
 use Rattle.replay_run.specs.declared.places.Place.{Place}
-use Rattle.replay_run.specs.Segments.{rows_of, call_of, call_after, calls_from}
+use Rattle.replay_run.specs.Segments.{kind_of, rows_of, call_of, call_after, calls_from}
 use Rattle.replay_run.specs.Replay.{IsBook, IsAnswered}
 use Rattle.replay_run.specs.Ready.{IsSoundSegment, IsReady}
 use Rattle.replay_run.specs.Work.{rows_in, of_worker, MayRun, MayWork, Ran, Worked, desks_in, jobs_of, AreDealt, job_at, gathered_from, gathered}
+use Rattle.replay_run.proofs.Behind.{meets_later}
 use Rattle.replay_run.proofs.Counts.{no_place, answer_of}
 use Rattle.replay_run.proofs.NoFault.{none_from, workers_there, tenants_there}
 use Rattle.replay_run.proofs.Numbered.{rows_own}
-use Rattle.fn_table.proofs.Books.{none_outside}
 use Rattle.replay_run.proofs.RanAt.{Reached, RanAt, came}
 use Rattle.replay_run.proofs.Runs.{asks}
 
@@ -107,32 +106,9 @@ gathered_at earlier places (first ∷ rows) (suc k) row is =
 -- a desk that made calls is still one of the pool, of the same worker
 pub still_one : (pool : PoolView) (old : DeskView) (jobs : List Job) (new : DeskView) → Ran pool old jobs new → Belongs pool old → Belongs pool new × (new.worker ≡ old.worker)
 still_one pool old [] new is belongs = (subst (Belongs pool) (sym is) belongs, ap (λ (d : DeskView). d.worker) is)
-still_one pool old (job ∷ jobs) new (next, made, rest) belongs = let later = still_one pool next jobs new rest made.together in (later.0, later.1 ∙ ap (λ (d : DeskView). d.worker) made.desk)
+still_one pool old (job ∷ jobs) new (next, called, rest) belongs = let later = still_one pool next jobs new rest called.made.together in (later.0, later.1 ∙ ap (λ (d : DeskView). d.worker) called.made.desk)
 
--- the passes of desks at a tenant, by desk
-passes_found : (tenant : ℕ) (ds : List DeskView) → ((k : ℕ) (d : DeskView) → slice_get ds k ≡ Some d → (q : PassView) × (slice_get d.passes tenant ≡ Some q))
-    → (k : ℕ) (d : DeskView) (q : PassView) → slice_get ds k ≡ Some d → slice_get d.passes tenant ≡ Some q → slice_get (passes_at tenant ds) k ≡ Some q
-passes_found tenant [] all k d q none at = absurd (none-some d none)
-passes_found tenant (first ∷ ds) all zero d q is at =
-    let same : slice_get first.passes tenant ≡ Some q = ap (λ (x : DeskView). slice_get x.passes tenant) (same_Some first d is) ∙ at in
-    ap (λ (o : Option PassView). slice_get (option_to_list o ++ passes_at tenant ds) 0) same
-passes_found tenant (first ∷ ds) all (suc k) d q is at =
-    let has = all 0 first refl in
-    ap (λ (o : Option PassView). slice_get (option_to_list o ++ passes_at tenant ds) (suc k)) has.1 ∙ passes_found tenant ds (λ j e at_j. all (suc j) e at_j) k d q is at
-
--- a reply stays what its call meets while the history grows
-pub reply_later : (start : Start) (first log : List Event) (call : Call) (n : ℕ) → (let old : CoreLog = record { start = start; log = first } in let new : CoreLog = record { start = start; log = log } in
-    IsLegal old → IsLegal new → IsPrefix first log → HasReply start (calls_in old) call n → HasReply start (calls_in new) call n)
-reply_later start first log call n legal longer begins has =
-    let old : CoreLog = record { start = start; log = first } in
-    let new : CoreLog = record { start = start; log = log } in
-    let past : List Call = calls_in old in
-    let further = histories_go_on old new longer refl begins in
-    let stays = reply_stays start.cap start.opening call.pass call.number past further.0 has.0 has.1 in
-    subst (λ (calls : List Call). HasReply start calls call n) further.1
-    (has.0, stays.0, (let size = length-append past further.0 in let within = has.2 in omega arith), get_or_append_left past further.0 call has.0 has.2 ∙ has.3, stays.1 ∙ has.4)
-
--- and a call stays entered as its way has it
+-- a call stays entered as its way has it, while the log goes on
 enters_later : (way : Option Way) (old new : CoreLog) → IsLegal new → new.start ≡ old.start → IsPrefix old.log new.log → (call : Call) → EntersBy way old call → EntersBy way new call
 enters_later (Some way) old new legal same begins call = entered_stays way old new legal same begins call
 enters_later None old new legal same begins call = (entries_stay old new legal same begins call).0
@@ -176,7 +152,7 @@ module _ (workers : ℕ) (caps openings : List ℕ) (rows : List Row) (pool : Po
     | inl (table, within, at, got) ↦
         let there : tenant < length caps = omega (arith, within, tables_count) in
         let new = new_pass worker below tenant table at in
-        let left : left_at (fresh_desk pool.tables worker) tenant ≡ get_or table.start.allowances worker 0 = ap left_in new.0 ∙ new.1.0.1 in
+        let left : left_at (fresh_desk pool.tables worker) tenant ≡ get_or table.start.allowances worker 0 = ap left_in new.0 ∙ new.1.1 in
         let plan : get_or table.start.allowances worker 0 ≡ amounts tenant (of_worker worker rows) = ap (λ (ns : List ℕ). get_or ns worker 0) (opens_with tenant table at).has_plan ∙ ready.planned.sums tenant there worker below in
         omega (arith, left, plan)
     | inr past ↦
@@ -251,23 +227,19 @@ module _ (workers : ℕ) (caps openings : List ℕ) (rows : List Row) (pool : Po
         let mine : rows_in (jobs_of done worker) ≡ of_worker worker rows = still_dealt worker (omega (arith, within, size)) in
         let tested : All (λ (row : Row). row.worker ≡ worker) (of_worker worker rows) = λ k d inside. (let test : ((get_or (of_worker worker rows) k d).worker == worker) ≡ true = filter_passes (λ (row : Row). row.worker == worker) rows k d inside in grind (arith, nat_tests, test)) in
         let all : All (λ (job : Job). job.row.worker ≡ worker) (jobs_of done worker) = jobs_all (λ (row : Row). row.worker ≡ worker) (jobs_of done worker) (All-same (λ (row : Row). row.worker ≡ worker) (rows_in (jobs_of done worker)) (of_worker worker rows) mine tested) in
-        came pool worker tenant (get_or places worker no_place).desk (jobs_of done worker) (get_or done worker no_place).desk (fresh table worker) [] was.ran all found refl (ap (own worker) new.1.1)
+        came pool worker tenant (get_or places worker no_place).desk (jobs_of done worker) (get_or done worker no_place).desk (fresh table worker) [] was.ran all found refl (ap (own worker) new.1.2)
 
-    module _ (books : List CoreLog) (closed : AreClosed pool (desks_in done) books) (tenant : ℕ) (table : TableView) (book : CoreLog) (at : slice_get pool.tables tenant ≡ Some table) (there : slice_get books tenant ≡ Some book) where
-      abbrev closes : ClosesWith table (passes_at tenant (desks_in done)) book
-      closes = closed.each tenant table book at there
+    module _ (books : List CoreLog) (told : TellsBooks pool (desks_in done) books) (closed : AreClosed (desks_in done) books) (tenant : ℕ) (table : TableView) (book : CoreLog) (at : slice_get pool.tables tenant ≡ Some table) (there : slice_get books tenant ≡ Some book) where
+      abbrev tells : TellsBook tenant table (desks_in done) book
+      tells = told.each tenant table book at there
 
-      -- the pass stands among those with which the table is closed
-      pass_there : (worker : ℕ) → worker < workers → (q : PassView) → slice_get (get_or done worker no_place).desk.passes tenant ≡ Some q → slice_get (passes_at tenant (desks_in done)) worker ≡ Some q
-      pass_there worker below q found =
+      abbrev joins : IsClosed (passes_at tenant (desks_in done)) book
+      joins = closed tenant book there
+
+      desk_there : (worker : ℕ) → worker < workers → slice_get (desks_in done) worker ≡ Some (get_or done worker no_place).desk
+      desk_there worker below =
           let within : worker < length done = omega (arith, below, count_places, size) in
-          let desks : slice_get (desks_in done) worker ≡ Some (get_or done worker no_place).desk =
-          slice_get-map (λ (p : Place). p.desk) done worker ∙ ap (λ (o : Option Place). option_map (λ (p : Place). p.desk) o) (slice_get-get_or done worker no_place within) in
-          passes_found tenant (desks_in done) (λ k d is.
-          let inside : k < length (desks_in done) = slice_get_within (desks_in done) k d is in
-          let belongs : Belongs pool d = subst (Belongs pool) (get_or_from_slice_get (desks_in done) k d d is) (still_together k d inside) in
-          found_at d.passes tenant (omega (arith, belongs.tenants, slice_get_within pool.tables tenant table at)))
-          worker (get_or done worker no_place).desk q desks found
+          slice_get-map (λ (p : Place). p.desk) done worker ∙ ap (λ (o : Option Place). option_map (λ (p : Place). p.desk) o) (slice_get-get_or done worker no_place within)
 
       opened_so : OpensWith workers (get_or openings tenant 0) (get_or caps tenant 0) (get_or ready.plans tenant []) table
       opened_so = opens_with tenant table at
@@ -278,14 +250,14 @@ module _ (workers : ℕ) (caps openings : List ℕ) (rows : List Row) (pool : Po
           let last = came_to worker below tenant table at in
           let q : PassView = last.0 in
           let number : q.number ≡ worker = last.2.number in
-          let same : own worker (calls_in book) ≡ own worker (calls_in q.seen) = subst (λ (w : ℕ). own w (calls_in book) ≡ own w (calls_in q.seen)) number (closes.calls worker q (pass_there worker below q last.1)) in
+          let has : HasCallsOf q book = tells.each worker (get_or done worker no_place).desk q (desk_there worker below) last.1 in
+          let same : own worker (calls_in book) ≡ own worker (past q) = subst (λ (w : ℕ). own w (calls_in book) ≡ own w (past q)) number has.calls in
           let mine : rows_in (jobs_of done worker) ≡ of_worker worker rows = still_dealt worker (omega (arith, below, count_places, size)) in
           same ∙ last.2.calls ∙ ap (λ (rs : List Row). calls_from 0 (rows_of worker tenant rs)) mine ∙ ap (calls_from 0) (rows_own worker tenant rows)
 
       no_rows : (worker : ℕ) → workers ≤ worker → own worker (calls_in book) ≡ calls_from 0 (rows_of worker tenant rows)
       no_rows worker above =
-          let passes : book.start.shape.passes ≡ workers = ap (λ (s : Start). s.shape.passes) closes.begins ∙ opened_so.has_shape.0 in
-          let none : own worker (calls_in book) ≡ [] = none_outside book closes.closed.legal worker (omega (arith, passes, above)) in
+          let none : own worker (calls_in book) ≡ [] = tells.no_other worker (omega (arith, above, count_places, size, length-map done (λ (p : Place). p.desk))) in
           let empty : of_worker worker rows ≡ [] = none_from workers rows (workers_there workers (length caps) rows sound.sound) worker above in
           none ∙ sym (ap (calls_from 0) (sym (rows_own worker tenant rows) ∙ ap (rows_of worker tenant) empty))
 
@@ -298,10 +270,10 @@ module _ (workers : ℕ) (caps openings : List ℕ) (rows : List Row) (pool : Po
 
       pub is_book : IsBook workers (get_or caps tenant 0) (get_or openings tenant 0) tenant rows book
       is_book = record {
-        legal = closes.closed.legal;
-        has_shape = subst (λ (s : Start). IsShapeFor workers s.shape) (sym closes.begins) opened_so.has_shape;
-        has_cap = ap (λ (s : Start). s.cap) closes.begins ∙ opened_so.has_cap;
-        has_opening = ap (λ (s : Start). s.opening) closes.begins ∙ opened_so.has_opening;
+        legal = joins.legal;
+        has_shape = subst (λ (s : Start). IsShapeFor workers s.shape) (sym tells.start) opened_so.has_shape;
+        has_cap = ap (λ (s : Start). s.cap) tells.start ∙ opened_so.has_cap;
+        has_opening = ap (λ (s : Start). s.opening) tells.start ∙ opened_so.has_opening;
         calls = all_rows;
       }
 
@@ -334,22 +306,21 @@ module _ (workers : ℕ) (caps openings : List ℕ) (rows : List Row) (pool : Po
           in_book : (worker : ℕ) → worker < workers → (q : PassView) → slice_get (get_or done worker no_place).desk.passes tenant ≡ Some q → q.seen.start ≡ table.start → (k : ℕ) (row : Row) (answer : Moved)
               → Reached q (of_worker row.worker (take k rows)) row answer → IsAnswered (take k rows) row answer book
           in_book worker below q found start k row answer reached =
-              let has = closes.closed.each worker q (pass_there worker below q found) in
-              let whole : IsPrefix q.seen.log book.log = subst (λ (log : List Event). IsPrefix q.seen.log log) (sym closes.closed.last) (prefix_more q.seen.log closes.closed.before (event 0 Glance ∷ []) has.begins) in
+              let whole : IsPrefix q.seen.log book.log = seen_in_book pool (desks_in done) still_together tenant table at worker (get_or done worker no_place).desk q (desk_there worker below) found book joins in
               let seen = prefix_on reached.after.seen.log q.seen.log book.log reached.seen whole in
-              let same : reached.after.seen.start ≡ book.start = reached.start ∙ start ∙ sym closes.begins in
-              let own_rows_before : List Row = of_worker row.worker (take k rows) in
-              let call_is : call_after own_rows_before row ≡ call_after (take k rows) row = ap (λ (n : ℕ). call_of n row) (ap length (rows_own row.worker row.tenant (take k rows))) in
-              let ReplyAt : Start → Type 0 = λ s. let old : CoreLog = record { start = s; log = reached.after.seen.log } in IsLegal old × HasReply s (calls_in old) (call_after own_rows_before row) answer.before in
-              let there : ReplyAt book.start = subst ReplyAt same (reached.legal, reached.met) in
+              let begins : reached.after.seen.start ≡ book.start = reached.start ∙ start ∙ sym tells.start in
+              let call : Call = next_call reached.pass (kind_of row.op) row.amount in
+              let same : call ≡ call_after (take k rows) row = reached.same ∙ ap (λ (n : ℕ). call_of n row) (ap length (rows_own row.worker row.tenant (take k rows))) in
+              let further : IsPrefix (past reached.after) (calls_in book) = histories_go_on reached.after.seen book joins.legal (sym begins) seen in
+              let met : Meets book.start.cap book.start.opening (past reached.after) call answer.before = subst (λ (s : Start). Meets s.cap s.opening (past reached.after) call answer.before) begins reached.called.called.met in
               record {
                 pass = reached.pass;
                 after = reached.after;
                 worker = reached.worker;
-                start = same;
+                start = begins;
                 seen = seen;
                 called = reached.called;
-                met = subst (λ (call : Call). HasReply book.start (calls_in book) call answer.before) call_is
-                    (reply_later book.start reached.after.seen.log book.log (call_after own_rows_before row) answer.before there.0 closes.closed.legal seen there.1);
-                entered = subst (λ (call : Call). EntersBy answer.way book call) call_is (enters_later answer.way reached.after.seen book closes.closed.legal (sym same) seen (call_after own_rows_before row) reached.entered);
+                same = same;
+                met = subst (λ (c : Call). Meets book.start.cap book.start.opening (calls_in book) c answer.before) same (meets_later book.start.cap book.start.opening (past reached.after) (calls_in book) further call answer.before met);
+                entered = subst (λ (c : Call). EntersBy answer.way book c) same (enters_later answer.way reached.after.seen book joins.legal (sym begins) seen call reached.called.entered);
               }

@@ -7,10 +7,10 @@
 use Rattle.std.specs.Prelude.{◌≡◌, ℕ, List, [], ◌∷◌, length, map, take, drop, slice_get, slice_index, Some}
 use mathlib.Core.List.{IsPrefix}
 use Rattle.fn_model.specs.Calls.{own}
-use Rattle.fn_model.specs.Integer.{value}
+use Rattle.fn_model.specs.Integer.{value, Meets}
 use Rattle.fn_core.specs.Calls.{CoreLog, calls_in, IsLegal}
-use Rattle.fn_core.specs.Laws.{HasReply}
 use Rattle.fn_table.specs.Seen.{PassView}
+use Rattle.fn_table.specs.Called.{call_of}
 use Rattle.fn_layout.specs.Workers.{IsShapeFor}
 use Rattle.quota_pool.specs.declared.moved.Moved.{Moved}
 use Rattle.quota_pool.specs.Calls.{Called, EntersBy}
@@ -31,7 +31,7 @@ pub record IsBook (workers cap opening tenant : ℕ) (rows : List Row) (book : C
   pub has_opening : book.start.opening ≡ opening
   pub calls : (worker : ℕ) → own worker (calls_in book) ≡ calls_from 0 (rows_of worker tenant rows)
 
--- The answer of a row: it is that of the call by which its worker's pass went on, and what the row's call meets in the book, which that call has entered as the way says
+-- The answer of a row: it is that of the call by which its worker's pass went on, and this is the row's call; it is what that call meets in the book, which the call has entered as the way says
 pub record IsAnswered (earlier : List Row) (row : Row) (answer : Moved) (book : CoreLog) : Type 0 where
   pub pass : PassView
   pub after : PassView
@@ -39,7 +39,8 @@ pub record IsAnswered (earlier : List Row) (row : Row) (answer : Moved) (book : 
   pub start : after.seen.start ≡ book.start
   pub seen : IsPrefix after.seen.log book.log
   pub called : Called pass (kind_of row.op) (goes_through row.op) row.amount answer after
-  pub met : HasReply book.start (calls_in book) (call_after earlier row) answer.before
+  pub same : call_of pass (kind_of row.op) row.amount ≡ call_after earlier row
+  pub met : Meets book.start.cap book.start.opening (calls_in book) (call_after earlier row) answer.before
   pub entered : EntersBy answer.way book (call_after earlier row)
 
 -- A segment: a book for each tenant, and an answer for each row

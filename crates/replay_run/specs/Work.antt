@@ -6,7 +6,8 @@
 --     gathered rows places      the answers, in order of the rows
 use Rattle.std.specs.Prelude.{◌≡◌, ◌<◌, ◌≤◌, ◌==◌, ℕ, None, List, [], ◌∷◌, ◌++◌, length, map, filter, slice_index_or, All}
 use Rattle.quota_pool.specs.Views.{PoolView, DeskView, Belongs, left_at}
-use Rattle.quota_pool.specs.Calls.{CallsAt}
+use Rattle.quota_pool.specs.Claims.{MadeAt}
+use Rattle.quota_pool.specs.Calls.{WentAt}
 use Rattle.quota_pool.specs.declared.moved.Moved.{Moved}
 use Rattle.trace_text.specs.SoundTrace.{IsSoundRow, amounts}
 use Rattle.trace_text.specs.declared.traces.Op.TheVariants.{Read}
@@ -29,9 +30,10 @@ pub record MayRun (pool : PoolView) (desk : DeskView) (rows : List Row) : Type 0
   pub sound : All (IsSoundRow pool.workers (length pool.tables)) rows
   pub left : (tenant : ℕ) → amounts tenant rows ≤ left_at desk tenant
 
--- the desk made the call of a job, with its answer
-abbrev pub Called : PoolView → DeskView → Job → DeskView → Type 0
-Called pool old job new = CallsAt pool old job.row.tenant (kind_of job.row.op) (goes_through job.row.op) job.row.amount job.answer new
+-- The desk made the call of a job, with its answer, in the way that its row may go
+pub record Called (pool : PoolView) (old : DeskView) (job : Job) (new : DeskView) : Type 0 where
+  pub made : MadeAt pool old job.row.tenant (kind_of job.row.op) job.row.amount job.answer new
+  pub way : WentAt old job.row.tenant (kind_of job.row.op) (goes_through job.row.op) job.row.amount job.answer new
 
 -- the desk made the calls of the jobs, one after the other, with their answers
 abbrev pub Ran : PoolView → DeskView → List Job → DeskView → Type 0

@@ -1,7 +1,8 @@
 //! Workers make the calls of their rows.
 ghost use Rattle.std.specs.Prelude.{◌≡◌, ◌<◌, ◌≤◌, ◌^◌, ℕ, All, length, slice_index_or};
 ghost use Rattle.quota_pool.specs.Views.{Belongs, left_at};
-ghost use Rattle.quota_pool.specs.Calls.{CallsAt};
+ghost use Rattle.quota_pool.specs.Claims.{MadeAt};
+ghost use Rattle.quota_pool.specs.Calls.{WentAt};
 ghost use Rattle.trace_text.specs.SoundTrace.{IsAmount};
 ghost use Rattle.replay_run.specs.Segments.{kind_of, goes_through};
 ghost use Rattle.replay_run.specs.Work.{rows_in, MayRun, Ran, MayWork, Worked};
@@ -20,7 +21,8 @@ fn make_call<R: Wait>(rt: &R, pool: &QuotaPool, desk: &mut Desk, row: Row) -> Mo
     requires tenant { row.tenant < length desk.old.passes }
     requires amount { IsAmount row.op row.amount }
     requires left { row.amount ≤ left_at desk.old row.tenant }
-    ensures { CallsAt pool.now desk.old row.tenant (kind_of row.op) (goes_through row.op) row.amount result desk.new }
+    ensures made { MadeAt pool.now desk.old row.tenant (kind_of row.op) row.amount result desk.new }
+    ensures way { WentAt desk.old row.tenant (kind_of row.op) (goes_through row.op) row.amount result desk.new }
 {
     match row.op {
         Op::Add => desk.add(rt, pool, row.tenant, row.amount),

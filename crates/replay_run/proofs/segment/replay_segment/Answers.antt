@@ -1,5 +1,6 @@
 use Rattle.std.proofs.Common.{◌<◌, ◌++◌, ℕ, List, All, length, map, replicate, sym, ap, ◌∙◌, subst, arith}
 use Rattle.quota_pool.specs.Views.{DeskView, Belongs}
+use Rattle.quota_pool.specs.Claims.{TellsBooks}
 use Rattle.quota_pool.specs.Closed.{AreClosed}
 use Rattle.trace_text.specs.declared.traces.Row.{Row}
 use Rattle.replay_run.specs.declared.places.Place.{Place}
@@ -33,6 +34,7 @@ close-requires-clause-all g c = ap (λ (desks : List DeskView). map (λ (d : Des
 
 pub returns-clause-segment : goal.returns-clause-segment
 returns-clause-segment g c =
-    let closed = subst (λ (desks : List DeskView). AreClosed c.in_ok-pool.field-0.pool desks c.close.result.items) c.leave.ensures c.close.ensures in
-    adds c.args.workers c.args.tenants.now c.deref.result.now c.args.openings.now c.args.rows.now c.in_ok-pool.field-0.pool c.in_ok-pool.field-0.places c.deref_mut.result.now (c.deref.ensures.value ∙ c.in_ok-caps.ensures) c.requires.sound c.in_ok-pool.ensures.ready c.deref_mut.ensures.value c.work_all.new.places c.work_all.auto.places c.work_all.ensures c.close.result.items closed c.args.answers.now.items c.gather.new.answers.items
+    let told = subst (λ (desks : List DeskView). TellsBooks c.in_ok-pool.field-0.pool desks c.close.result.items) c.leave.ensures c.close.ensures.told in
+    let closed = subst (λ (desks : List DeskView). AreClosed desks c.close.result.items) c.leave.ensures c.close.ensures.closed in
+    adds c.args.workers c.args.tenants.now c.deref.result.now c.args.openings.now c.args.rows.now c.in_ok-pool.field-0.pool c.in_ok-pool.field-0.places c.deref_mut.result.now (c.deref.ensures.value ∙ c.in_ok-caps.ensures) c.requires.sound c.in_ok-pool.ensures.ready c.deref_mut.ensures.value c.work_all.new.places c.work_all.auto.places c.work_all.ensures c.close.result.items told closed c.args.answers.now.items c.gather.new.answers.items
     (c.gather.ensures.answers ∙ ap (λ (places : List Place). c.args.answers.now.items ++ gathered c.args.rows.now places) c.deref-2.ensures.value)

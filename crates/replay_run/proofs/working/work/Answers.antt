@@ -46,8 +46,8 @@ loop-job-preserved g c =
     let may : MayRun c.args.pool.now c.loop-job.desk (job.row ∷ rows_in (drop (i + 1) jobs)) = subst (MayRun c.args.pool.now c.loop-job.desk) (here jobs i within) c.loop-job.invariant.may in
     record {
       ran = subst (λ (done : List Job). Ran c.args.pool.now c.args.desk.now done c.make_call-job.new.desk) (sym (take_more_set jobs i job within))
-          (ran_more c.args.pool.now c.args.desk.now (take i jobs) c.loop-job.desk job c.make_call-job.new.desk c.loop-job.invariant.ran c.make_call-job.ensures);
+          (ran_more c.args.pool.now c.args.desk.now (take i jobs) c.loop-job.desk job c.make_call-job.new.desk c.loop-job.invariant.ran (record { made = c.make_call-job.ensures.made; way = c.make_call-job.ensures.way }));
       rows = same_rows jobs i job none refl ∙ c.loop-job.invariant.rows;
       may = subst (λ (left : List Job). MayRun c.args.pool.now c.make_call-job.new.desk (rows_in left)) (sym (drop-set-lt (i + 1) jobs i job (omega arith)))
-          (may_more c.args.pool.now c.loop-job.desk job.row (rows_in (drop (i + 1) jobs)) c.make_call-job.result c.make_call-job.new.desk may c.make_call-job.ensures);
+          (may_more c.args.pool.now c.loop-job.desk job.row (rows_in (drop (i + 1) jobs)) c.make_call-job.result c.make_call-job.new.desk may c.make_call-job.ensures.made);
     }

@@ -3,7 +3,8 @@ use Rattle.running.specs.Running.{upto}
 use Rattle.quota_pool.specs.declared.tenants.Tenant.{Tenant}
 use Rattle.quota_pool.specs.Views.{PoolView, DeskView, Belongs}
 use Rattle.quota_pool.specs.Rooms.{HaveRoom, IsEmptyFor, funnels, rooms, rooms_after}
-use Rattle.quota_pool.specs.Closed.{AreClosed}
+use Rattle.quota_pool.specs.Claims.{TellsBooks}
+use Rattle.quota_pool.proofs.Books.{tells_books, are_closed}
 use Rattle.quota_pool.proofs.RoomSteps.{empty_room}
 use Rattle.quota_pool.proofs.Closes.{all_empty, count, parts, first_belongs, first_room, place_for_each, one_each, tenants_count, tenants_ready, pool_closed}
 use Rattle.quota_pool.proofs.pool.QuotaPool.close.Goals as goal
@@ -111,8 +112,8 @@ close_all-requires-clause-ready c =
     let is : first ≡ get_or desks 0 first = subst (λ (x : DeskView). x ≡ get_or desks 0 x) (sym c.seats.view_is) c.remove.ensures.value in
     tenants_ready self c.furnish-tenants.result c.deref_mut.result.now c.hand_in.new.tenants desks c.self.invariant.1 c.furnish-tenants.ensures.funnels c.furnish-tenants.ensures.empty c.deref_mut.ensures.value c.hand_in.ensures.funnels (c.hand_in.ensures.rooms ∙ ap (λ (ds : List DeskView). rooms_after (rooms c.deref_mut.result.now) ds) (sym (parts self desks first others c.self.invariant.0 together numbers is c.remove.ensures.items))) together numbers
 
-pub returns : goal.returns
-returns c =
+pub returns-clause-told : goal.returns-clause-told
+returns-clause-told c =
     let self : PoolView = record { workers = c.self.inside.workers; tables = c.self.inside.funnels.items } in
     let desks = c.args.desks.items in
     let first = c.seats.inside.seats in
@@ -120,5 +121,16 @@ returns c =
     let together : All (Belongs self) desks = subst (λ (p : PoolView). All (Belongs p) desks) (sym c.self.view_is) c.requires.together in
     let numbers : map (λ (d : DeskView). d.worker) desks ≡ upto self.workers = c.requires.all ∙ ap (λ (p : PoolView). upto p.workers) (sym c.self.view_is) in
     let is : first ≡ get_or desks 0 first = subst (λ (x : DeskView). x ≡ get_or desks 0 x) (sym c.seats.view_is) c.remove.ensures.value in
-    subst (λ (p : PoolView). AreClosed p desks c.close_all.result.items) c.self.view_is
-    (pool_closed self c.furnish-tenants.result c.deref_mut.result.now c.hand_in.new.tenants desks c.self.invariant.1 c.furnish-tenants.ensures.funnels c.furnish-tenants.ensures.empty c.deref_mut.ensures.value c.hand_in.ensures.funnels (c.hand_in.ensures.rooms ∙ ap (λ (ds : List DeskView). rooms_after (rooms c.deref_mut.result.now) ds) (sym (parts self desks first others c.self.invariant.0 together numbers is c.remove.ensures.items))) together numbers c.close_all.result.items c.close_all.ensures)
+    subst (λ (p : PoolView). TellsBooks p desks c.close_all.result.items) c.self.view_is
+    (tells_books self desks together c.self.invariant.1 numbers c.close_all.result.items (pool_closed self c.furnish-tenants.result c.deref_mut.result.now c.hand_in.new.tenants desks c.self.invariant.1 c.furnish-tenants.ensures.funnels c.furnish-tenants.ensures.empty c.deref_mut.ensures.value c.hand_in.ensures.funnels (c.hand_in.ensures.rooms ∙ ap (λ (ds : List DeskView). rooms_after (rooms c.deref_mut.result.now) ds) (sym (parts self desks first others c.self.invariant.0 together numbers is c.remove.ensures.items))) together numbers c.close_all.result.items c.close_all.ensures))
+
+pub returns-clause-closed : goal.returns-clause-closed
+returns-clause-closed c =
+    let self : PoolView = record { workers = c.self.inside.workers; tables = c.self.inside.funnels.items } in
+    let desks = c.args.desks.items in
+    let first = c.seats.inside.seats in
+    let others = c.remove.new.self.items in
+    let together : All (Belongs self) desks = subst (λ (p : PoolView). All (Belongs p) desks) (sym c.self.view_is) c.requires.together in
+    let numbers : map (λ (d : DeskView). d.worker) desks ≡ upto self.workers = c.requires.all ∙ ap (λ (p : PoolView). upto p.workers) (sym c.self.view_is) in
+    let is : first ≡ get_or desks 0 first = subst (λ (x : DeskView). x ≡ get_or desks 0 x) (sym c.seats.view_is) c.remove.ensures.value in
+    are_closed self desks together c.self.invariant.1 numbers c.close_all.result.items (pool_closed self c.furnish-tenants.result c.deref_mut.result.now c.hand_in.new.tenants desks c.self.invariant.1 c.furnish-tenants.ensures.funnels c.furnish-tenants.ensures.empty c.deref_mut.ensures.value c.hand_in.ensures.funnels (c.hand_in.ensures.rooms ∙ ap (λ (ds : List DeskView). rooms_after (rooms c.deref_mut.result.now) ds) (sym (parts self desks first others c.self.invariant.0 together numbers is c.remove.ensures.items))) together numbers c.close_all.result.items c.close_all.ensures)
