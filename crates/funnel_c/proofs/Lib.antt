@@ -1,0 +1,4 @@
+mod Boxes
+mod Looses
+mod InSlots
+mod Opened
