@@ -3,7 +3,7 @@ ghost use Rattle.std.specs.Prelude.{◌≡◌, All, IfSome, length};
 ghost use Rattle.fn_core.specs.Calls.{IsIdle};
 ghost use Rattle.fn_table.specs.Seen.{IsOf, IsWhole};
 
-use fn_funnel::{Funnel, Pass, Shape, add, read, shape_for};
+use fn_funnel::{Funnel, Pass, Shape, Way, add, read};
 use std::alloc::{AllocError, Global};
 use std::sync::atomic::{AtomicU64, Ordering};
 use std::sync::{Mutex, Wait};
@@ -36,39 +36,61 @@ pub struct Round {
     pub times: u32,
 }
 
+/// What additions came to: the value that they left, and how many of them went past the funnel.
+#[derive(Clone, Copy)]
+pub struct Made {
+    pub value: u64,
+    pub past: u64,
+}
+
 impl Round {
-    /// Makes the additions, and gives the value that they leave.
+    /// Makes the additions.
     pub fn run<R: Threads + Wait + Sync>(
         self,
         rt: &R,
         alloc: Global,
         ground: Ground,
-    ) -> Result<u64, AllocError> {
+    ) -> Result<Made, AllocError> {
         match ground {
             Ground::Funnel => on_a_funnel(rt, alloc, self),
-            Ground::Word => on_a_word(rt, alloc, self),
-            Ground::Lock => under_a_lock(rt, alloc, self),
+            Ground::Word => Ok(Made {
+                value: on_a_word(rt, alloc, self)?,
+                past: 0,
+            }),
+            Ground::Lock => Ok(Made {
+                value: under_a_lock(rt, alloc, self)?,
+                past: 0,
+            }),
         }
+    }
+
+    /// How many additions there are in all.
+    pub fn additions(self) -> u64 {
+        self.threads as u64 * self.times as u64
     }
 
     /// How many additions there were in a second.
     pub fn rate(self, spent: Duration) -> u64 {
-        let additions = self.threads as u64 * self.times as u64;
         let micros = spent.as_secs().saturating_mul(1_000_000);
         let micros = micros.saturating_add(spent.subsec_micros() as u64);
-        additions.saturating_mul(1_000_000) / micros.max(1)
+        self.additions().saturating_mul(1_000_000) / micros.max(1)
     }
 }
 
-// On one funnel, at which one more pass reads the value.
+// On one funnel, which has the leaves and levels that so many threads get, and one more pass that reads the value.
 fn on_a_funnel<R: Threads + Wait + Sync>(
     rt: &R,
     alloc: Global,
     round: Round,
-) -> Result<u64, AllocError> {
-    let passes = round.threads.min(63) + 1;
-    let allowances = vec![in alloc; round.times as u64; passes as usize]?;
-    open_and_add(rt, alloc, shape_for(passes), &allowances, round)
+) -> Result<Made, AllocError> {
+    let threads = round.threads.max(1).min(63);
+    let leaves = (threads + 3) / 4;
+    let levels = if leaves >= 2 { 2 } else { 1 };
+    let Ok(shape) = Shape::new(threads + 1, leaves, levels, 4) else {
+        return Err(AllocError);
+    };
+    let allowances = vec![in alloc; round.times as u64; threads as usize + 1]?;
+    open_and_add(rt, alloc, shape, &allowances, round)
 }
 
 // On a funnel of this shape.
@@ -78,7 +100,7 @@ fn open_and_add<R: Threads + Wait + Sync>(
     shape: Shape,
     allowances: &[u64],
     round: Round,
-) -> Result<u64, AllocError>
+) -> Result<Made, AllocError>
     requires { length allowances.now ≡ shape.passes }
 {
     let (funnel, mut passes) = match Funnel::open(alloc, shape, 0, allowances) {
@@ -86,11 +108,12 @@ fn open_and_add<R: Threads + Wait + Sync>(
         Err(_) => return Err(AllocError),
     };
     let reader = last_of(&funnel, &mut passes);
-    add_at_once(rt, &funnel, passes, round.times)?;
-    match reader {
-        Some(mut pass) => Ok(read(funnel.table(), &mut pass)),
-        None => Ok(0),
-    }
+    let past = add_at_once(rt, &funnel, passes, round.times)?;
+    let value = match reader {
+        Some(mut pass) => read(funnel.table(), &mut pass),
+        None => 0,
+    };
+    Ok(Made { value, past })
 }
 
 // The last of some passes.
@@ -104,40 +127,49 @@ fn last_of(funnel: &Funnel, passes: &mut Vec<Pass>) -> Option<Pass>
     passes.pop()
 }
 
-// A thread for each pass, which makes so many additions.
+// A thread for each pass, which makes so many additions: how many of them went past the funnel.
 fn add_at_once<R: Threads + Wait + Sync>(
     rt: &R,
     funnel: &Funnel,
     passes: Vec<Pass>,
     times: u32,
-) -> Result<(), AllocError>
+) -> Result<u64, AllocError>
     requires together { All (λ p. IsOf funnel.now p) passes.items }
     requires idle { All IsWhole passes.items }
 {
-    let _ended = thread::map_vec(
+    let ended = thread::map_vec(
         rt,
         passes,
-        &|pass| -> Pass
+        &|pass| -> u64
             requires { IsOf funnel.now pass × IsIdle pass.seen pass.number }
         { add_ones(rt, funnel, pass, times) },
     )?;
-    Ok(())
+    let mut all = 0u64;
+    for past in ended {
+        all = all.wrapping_add(past);
+    }
+    Ok(all)
 }
 
-// So many additions of 1 through the funnel.
-fn add_ones<R: Wait>(rt: &R, funnel: &Funnel, pass: Pass, times: u32) -> Pass
+// So many additions of 1 through the funnel: how many of them went past it.
+fn add_ones<R: Wait>(rt: &R, funnel: &Funnel, pass: Pass, times: u32) -> u64
     requires together { IsOf funnel.now pass }
     requires idle { IsIdle pass.seen pass.number }
 {
     let mut pass = pass;
+    let mut past = 0u64;
     for _ in 0..times {
         if pass.allowance() == 0 {
-            return pass;
+            return past;
         }
-        let (next, _) = add(rt, funnel, pass, 1);
+        let (next, added) = add(rt, funnel, pass, 1);
+        match added.way {
+            Way::Funnel => {}
+            Way::Direct(_) => past = past.wrapping_add(1),
+        }
         pass = next;
     }
-    pass
+    past
 }
 
 // On one word, by a fetch-and-add each.
