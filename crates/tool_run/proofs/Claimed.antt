@@ -1,10 +1,13 @@
 -- From the account of a command's text to what the text tells.
-use Rattle.std.proofs.Common.{ℕ, List, map, ap}
+use Rattle.std.proofs.Common.{ℕ, List, length, map, ap}
 use Rattle.fn_core.specs.Calls.{calls_in}
 use Rattle.replay_run.specs.Replay.{value_in}
 use Rattle.quota_bucket.specs.Closed.{history}
 use Rattle.trace_text.specs.Records.{records_of}
 use Rattle.trace_text.proofs.Said.{traces-in_grammar}
+use Rattle.relay_run.specs.Lines.{lines_of}
+use Rattle.relay_run.specs.Relay.{order_of}
+use Rattle.relay_run.proofs.Ordered.{relays_are_ordered}
 use Rattle.tool_words.specs.declared.commands.Command.{Command}
 use Rattle.tool_words.specs.declared.commands.Command.TheVariants.{Play, Trial, Replay, Drill, Relay, Rounds, Tally, Throttle}
 use Rattle.tool_run.specs.Accounts.{Accounts}
@@ -26,7 +29,8 @@ tells (Replay workers) bytes text handed a =
 tells (Drill seed rows workers) bytes text handed a =
     (map value_in handed.books, a.0.1, a.1)
 tells (Relay workers capacity) bytes text handed a =
-    (a.1.0, a.0, a.1.1, ap (λ (h : HandedBack). h.answers) a.1.2)
+    let relayed = a.1 in
+    (a.0, (order_of (length (lines_of bytes)) relayed.book, relays_are_ordered workers capacity (length (lines_of bytes)) relayed.book relayed.relayed, relayed.tells), ap (λ (h : HandedBack). h.answers) relayed.back)
 tells Rounds bytes text handed a =
     (a.0, calls_in a.1, a.2, a.3, a.4, ap (λ (h : HandedBack). h.answers) a.6)
 tells (Tally workers grain) bytes text handed a =

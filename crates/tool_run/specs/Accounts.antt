@@ -11,18 +11,20 @@ use Rattle.trace_text.specs.declared.scripts.Script.{Script}
 use Rattle.replay_run.specs.Claim.{TellsReplay}
 use Rattle.replay_run.specs.Replay.{IsReplay, value_in}
 use Rattle.tq_queue.specs.Seen.{BookView}
+use Rattle.tq_queue.specs.Laws.{IsSound}
 use Rattle.fn_rounds.specs.Script.{IsBookOf, TellsRounds}
 use Rattle.fn_spread.specs.Account.{IsBookOfDraws}
 use Rattle.fn_spread.specs.Tally.{draws_in, newlines_in, pieces_in, tally_line}
 use Rattle.quota_bucket.specs.Closed.{BucketLog, history}
 use Rattle.throttle_run.specs.Throttled as throttled
 use Rattle.relay_run.specs.Lines.{lines_of}
+use Rattle.relay_run.specs.Relay.{IsRelay, order_of, text_from}
 use Rattle.relay_run.specs.declared.lines.TheConstants.{MOST_LINES}
 use Rattle.replay_report.specs.Report.{report_text, summary_text}
 use Rattle.tool_words.specs.declared.commands.Command.{Command}
 use Rattle.tool_words.specs.declared.commands.Command.TheVariants.{Play, Trial, Replay, Drill, Relay, Rounds, Tally, Throttle}
 use Rattle.tool_run.specs.Handed.{HandedBack, handed_by, nothing, replayed, one_book, one_queue, one_bucket}
-use Rattle.tool_run.specs.Outcome.{HasChanges, Input, IsRelayed, Output, Reads, Writes, drill_line}
+use Rattle.tool_run.specs.Outcome.{HasChanges, Input, Output, Reads, Writes, drill_line}
 use Rattle.script_run.specs.Play.{play_text}
 use Rattle.script_run.specs.Replies.{IsRunText}
 use Rattle.script_run.specs.Trial.{IsHalted, TellsTrial}
@@ -44,9 +46,13 @@ abbrev pub IsSummary : ℕ → Content → List ℕ → HandedBack → Type 0
 IsSummary workers trace text handed =
     IsReplay workers trace handed.answers handed.books × TellsReplay trace handed.answers (map value_in handed.books) × (text ≡ summary_text trace workers handed.answers (map value_in handed.books)) × (handed ≡ replayed handed.answers handed.books)
 
--- the book of the queue through which lines were relayed
-abbrev pub HasRelayed : ℕ → ℕ → List (List ℕ) → List ℕ → HandedBack → Type 0
-HasRelayed workers capacity lines text handed = (book : BookView ℕ) × IsRelayed workers capacity lines text book × (handed ≡ one_queue book)
+-- The book of the queue through which lines were relayed: each worker put its own into it, in order; the text has the lines by rising ticket; and the book is sound
+pub record HasRelayed (workers capacity : ℕ) (lines : List (List ℕ)) (text : List ℕ) (handed : HandedBack) : Type 0 where
+  pub book : BookView ℕ
+  pub relayed : IsRelay workers capacity (length lines) book
+  pub sound : IsSound book
+  pub tells : text ≡ text_from 0 lines (order_of (length lines) book)
+  pub back : handed ≡ one_queue book
 
 -- the line of a tally, and the book of its draws
 abbrev pub HasTallied : ℕ → ℕ → List ℕ → List ℕ → CoreLog → Type 0

@@ -28,7 +28,6 @@ use Rattle.trace_text.specs.declared.traces.Row.{Row}
 use Rattle.trace_text.specs.declared.traces.TraceFault.{TraceFault}
 use Rattle.trace_text.specs.declared.traces.TraceFault.TheVariants as trace
 use Rattle.replay_run.specs.Claim.{TellsReplay}
-use Rattle.tq_queue.specs.Seen.{BookView}
 use Rattle.fn_rounds.specs.Script.{IsChangeOrder, TellsRounds, other_order}
 use Rattle.fn_spread.specs.Tally.{draws_in, newlines_in, tally_line}
 use Rattle.tick_table.specs.declared.entry.Entry.{Entry}
@@ -40,7 +39,7 @@ use Rattle.throttle_run.specs.declared.faults.ThrottleFault.TheVariants as takes
 use Rattle.throttle_run.specs.declared.lines.ThrottleLine.{ThrottleLine}
 use Rattle.trace_text.specs.Text.{lines}
 use Rattle.relay_run.specs.Lines.{lines_of}
-use Rattle.relay_run.specs.Relay.{IsRelay, order_of, text_from}
+use Rattle.relay_run.specs.Claim.{TellsRelay}
 use Rattle.relay_run.specs.declared.lines.TheConstants.{MOST_LINES}
 use Rattle.replay_report.specs.Report.{report_text, summary_line}
 use Rattle.tool_words.specs.declared.commands.Command.{Command}
@@ -131,17 +130,13 @@ drill_line seed rows workers =
 abbrev pub HasChanges : Script → Type 0
 HasChanges script = All (λ line. IsChangeOrder line.order) script.lines
 
--- the text has the lines by rising ticket, as a queue had them into which each worker put its own, in order
-abbrev pub IsRelayed : ℕ → ℕ → List (List ℕ) → List ℕ → BookView ℕ → Type 0
-IsRelayed workers capacity lines text book = IsRelay workers capacity (length lines) book × (text ≡ text_from 0 lines (order_of (length lines) book))
-
 -- the text of a command from the bytes that it read, and the answers that are handed back; where it tells of a history, there is one of which it is true
 abbrev pub Tells : Command → List ℕ → List ℕ → List Moved → Type 0
 Tells Play bytes text answers = (s : Script) × (script_of bytes ≡ Ok (content s)) × TellsInTurn s text × (answers ≡ [])
 Tells Trial bytes text answers = (s : Script) × (script_of bytes ≡ Ok (content s)) × TellsScript s text × (answers ≡ [])
 Tells (Replay workers) bytes text answers = (t : Content) × (finals : List ℕ) × IsTrace workers (records_of bytes) t × TellsReplay t answers finals × (text ≡ report_text t answers finals)
 Tells (Drill seed rows workers) bytes text answers = (finals : List ℕ) × TellsReplay (drill seed rows workers) answers finals × (text ≡ drill_line seed rows workers)
-Tells (Relay workers capacity) bytes text answers = (book : BookView ℕ) × (length (lines_of bytes) ≤ MOST_LINES) × IsRelayed workers capacity (lines_of bytes) text book × (answers ≡ [])
+Tells (Relay workers capacity) bytes text answers = (length (lines_of bytes) ≤ MOST_LINES) × TellsRelay workers (lines_of bytes) text × (answers ≡ [])
 Tells Rounds bytes text answers = (s : Script) × (history : List Call) × (script_of bytes ≡ Ok (content s)) × HasChanges s × TellsRounds s text history × (answers ≡ [])
 Tells (Tally workers grain) bytes text answers = (text ≡ tally_line (newlines_in bytes) (length bytes) (draws_in workers grain (length bytes))) × (answers ≡ [])
 Tells (Throttle workers burst rate period) bytes text answers = (tokens : List Call) × (ticks : List Entry) × TellsText workers burst rate period bytes text tokens ticks × (answers ≡ [])

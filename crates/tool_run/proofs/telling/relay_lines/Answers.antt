@@ -9,4 +9,4 @@ returns g c =
     let count : c.count-count.result ≡ length c.args.lines.now = c.count-count.ensures in
     let P : ℕ → Type 0 = λ n. IsRelay c.args.workers c.args.capacity n c.in_ok-order.field-0.book in
     let text = c.in_ok-text.ensures ∙ ap (text_from 0 lines) (c.deref.ensures.value ∙ c.in_ok-order.ensures.order ∙ ap (λ n. order_of n book) count) in
-    (book, (subst P count c.in_ok-order.ensures.book, text), c.queue.ensures)
+    record { book = book; relayed = subst P count c.in_ok-order.ensures.book; sound = c.in_ok-order.ensures.sound; tells = text; back = c.queue.ensures }
