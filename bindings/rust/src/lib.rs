@@ -142,7 +142,7 @@ pub struct Handle {
     caller: raw::Caller,
 }
 
-// SAFETY: a caller may go from one thread to another, which is proved (`callers_go` of `fn_callers`), and each call takes
+// SAFETY: a caller may go from one thread to another, which is proved (`slots_go` of `crates/funnel_c`), and each call takes
 // `&mut self`, so that it is in one thread at a time.
 unsafe impl Send for Handle {}
 
