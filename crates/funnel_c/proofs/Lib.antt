@@ -2,3 +2,4 @@ mod Boxes
 mod Looses
 mod InSlots
 mod Opened
+mod Sent

@@ -23,6 +23,9 @@ impl Model for Held {
     ghost also_owns = { λ h. owns_held the_row h.at h.value };
 }
 
+// What it points to is its own.
+unsafe impl Send for Held {}
+
 impl Held {
     /// It points to nothing.
     pub fn none() -> Held

@@ -51,3 +51,10 @@ impl Slot {
         }
     }
 }
+
+// Slots may go from one thread to another.
+fn goes<T: Send>() {}
+
+pub fn slots_go() {
+    goes::<Slot>();
+}
