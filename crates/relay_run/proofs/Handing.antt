@@ -1,5 +1,5 @@
 -- What the workers hand in, and what it makes of the book and of the order.
-use Rattle.std.proofs.Common.{◌≡◌, ℕ, zero, suc, ◌+◌, ◌<◌, ◌≤◌, List, [], ◌∷◌, ◌++◌, length, map, get_or, replicate, Global, Bool, true, false, inl, inr, refl, sym, ◌∙◌, ap, subst, arith}
+use Rattle.std.proofs.Common.{◌≡◌, ℕ, zero, suc, ◌+◌, ◌<◌, ◌≤◌, List, [], ◌∷◌, ◌++◌, length, map, get_or, replicate, Global, Bool, true, inl, inr, refl, sym, ◌∙◌, ap, subst, arith}
 use Rattle.std.specs.Prelude.{◌==◌, All, sum_by, nat_lt, if◌then◌else◌}
 use Rattle.std.proofs.lemmas.Bool.Decides.{nat_tests}
 use Rattle.std.proofs.lemmas.Bool.{cases_lt}
@@ -26,6 +26,7 @@ use Rattle.relay_run.specs.Work.{line_of, first_lines, IsDone, IsSame, AreSame, 
 use Rattle.relay_run.specs.Filling.{all_filled}
 use Rattle.relay_run.proofs.Strides.{length-numbers_from, strided, lines_below, lines_few}
 use Rattle.relay_run.proofs.Together.{HasRelayed, seats_below, pass_of, pass_at, entries_same, is_relay}
+use Rattle.relay_run.proofs.Ordered.{puts_below}
 use Rattle.relay_run.proofs.Written.{Stand, AllStand, stand_below, all_make_right, all_keep_below, length-all_filled, order_is, StandsAlone, all_stand_alone, seat_stands}
 
 same_numbers : (old new : List Worker) → length new ≡ length old → ((i : ℕ) (d : Worker) → i < length old → IsSame (get_or old i d) (get_or new i d)) → map (λ (w : Worker). w.share.worker) new ≡ map (λ (w : Worker). w.share.worker) old
@@ -158,22 +159,12 @@ module _ (q : QueueView) (ps : List (CallerView ℕ)) (book : BookView ℕ) (all
       ∙ get_or_from_slice_get (map (λ (p : CallerView ℕ). own_puts p.seat) ps) seat (own_puts pass.seat) [] (get-map (λ (p : CallerView ℕ). own_puts p.seat) ps seat pass (pass_at q ps book all closed seat inside))
       ∙ ap tickets_put (sym (entries_same q ps book all closed seat inside))
 
-  puts_below : (t x : ℕ) → puts t log ≡ x ∷ [] → t < count
-  puts_below t x is = elim (cases_lt t count) [
-    | inl less ↦ less
-    | inr most ↦
-        let one : length (puts t log) ≡ 1 = ap length is in
-        let test : nat_lt t count ≡ false = grind (arith, nat_tests) in
-        let none : length (puts t log) ≡ 0 = relay.puts t ∙ ap (λ (b : Bool). if b then 1 else 0) test in
-        absurd (omega (arith, one, none))
-  ]
-
   stands : (seat : ℕ) → seat < workers → Stand log count (line_of workers seat) 0 (get_or kept seat [])
   stands seat range =
       let mine : List (Event ℕ) = entries_of seat log in
       let lines : items_put mine ≡ first_lines workers seat (length (lines_at workers count seat)) = relay.lines seat ∙ strided workers seat range count in
       subst (Stand log count (line_of workers seat) 0) (sym (tickets_are seat range))
-      (seat_stands log count puts_below (line_of workers seat) 0 (length (lines_at workers count seat)) mine
+      (seat_stands log count (puts_below count log relay.puts) (line_of workers seat) 0 (length (lines_at workers count seat)) mine
       (All-filter (λ (e : Event ℕ). e.seat == seat) (λ (e : Event ℕ). StandsAlone log e.entry) log (all_stand_alone book.cells.start log relay.legal))
       (subst (All (λ x. x < count)) (sym (relay.lines seat)) (lines_below workers count seat))
       lines)

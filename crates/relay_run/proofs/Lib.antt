@@ -4,3 +4,4 @@ pub mod Together
 pub mod Written
 pub mod Handing
 pub mod Splitting
+pub mod Ordered

@@ -1,14 +1,15 @@
 -- What puts and takes tell of what a desk has done, and what a worker has done in the end.
-use Rattle.std.proofs.Common.{◌≡◌, ℕ, zero, suc, ◌+◌, ◌-◌, ◌*◌, ◌<◌, ◌≤◌, List, [], ◌∷◌, ◌++◌, length, take, set, map, Some, add-one, refl, sym, ◌∙◌, ap, subst, arith, append_assoc}
+use Rattle.std.proofs.Common.{◌≡◌, ℕ, zero, suc, ◌+◌, ◌-◌, ◌<◌, ◌≤◌, List, [], ◌∷◌, ◌++◌, length, take, set, map, Some, add-one, refl, sym, ◌∙◌, ap, subst, arith, append_assoc}
+use Rattle.std.specs.Prelude.{flat_map}
 use Rattle.std.proofs.lemmas.List.{append-nil, length-append, length-map, map-append, take_more_set}
 use Rattle.tq_cells.specs.declared.entry.Entry.{Entry}
 use Rattle.tq_cells.specs.declared.entry.Entry.TheVariants as entries
 use Rattle.tq_cells.specs.declared.entry.Event.{Event}
-use Rattle.tq_cells.specs.Seen.{SeatView, Entered, entries_of}
+use Rattle.tq_cells.specs.Seen.{SeatView, entries_of}
 use Rattle.tq_queue.specs.Kept.{own_puts, own_takes, tickets_put, tickets_taken}
-use Rattle.tq_queue.specs.Moves.{HasMissed, Placed, Taken, HasPut, HasTaken}
+use Rattle.tq_queue.specs.Claims.{deed, deeds, MadePut, MadeTake}
 use Rattle.tq_queue.specs.Seen.{QueueView, CallerView, IsOf, fresh, fresh_passes}
-use Rattle.tq_queue.proofs.Told.{own_grows, placed_puts, placed_takes, taken_puts, taken_takes}
+use Rattle.tq_queue.proofs.Done.{done_more, done_puts, done_takes}
 use Rattle.relay_run.specs.declared.desks.Desk.{Desk}
 use Rattle.running.specs.Running.{upto, numbers_from}
 use Rattle.relay_run.specs.declared.lines.TheConstants.{MOST_LINES}
@@ -17,53 +18,36 @@ use Rattle.relay_run.specs.Relay.{items_put, item_put}
 use Rattle.relay_run.specs.Work.{line_of, first_lines, own_items, Advances, IsReady, IsDone, pass_in, passes_in}
 use Rattle.relay_run.proofs.Strides.{length-numbers_from, upto_more, first_more}
 
-items_put-append : (xs ys : List (Event ℕ)) → items_put (xs ++ ys) ≡ items_put xs ++ items_put ys
-items_put-append [] ys = refl
-items_put-append (x ∷ xs) ys = ap (λ (l : List ℕ). item_put x.entry ++ l) (items_put-append xs ys) ∙ sym (append_assoc (item_put x.entry) (items_put xs) (items_put ys))
-
-entered_items : (p : SeatView ℕ) (entry : Entry ℕ) (q : SeatView ℕ) → Entered p entry q → own_items q ≡ own_items p ++ item_put entry
-entered_items p entry q e =
-    let event : Event ℕ = record { seat = p.number; entry = entry } in
-    ap items_put (own_grows p entry q e) ∙ items_put-append (entries_of p.number p.log) (event ∷ []) ∙ ap (λ (l : List ℕ). own_items p ++ l) (append-nil (item_put entry))
-
-missed_items : (p : SeatView ℕ) (expected : ℕ) (founds : List ℕ) (q : SeatView ℕ) → HasMissed p expected founds q → own_items q ≡ own_items p
-missed_items p expected [] q is = ap (λ (s : SeatView ℕ). own_items s) is
-missed_items p expected (found ∷ earlier) q (r, so_far, missed) =
-    entered_items r (entries.Miss expected found) q missed.entered ∙ append-nil (own_items r) ∙ missed_items p expected earlier r so_far
-
-placed_items : (p : SeatView ℕ) (ticket item : ℕ) (q : SeatView ℕ) → Placed p ticket item q → own_items q ≡ own_items p ++ item ∷ []
-placed_items p ticket item q placed =
-    let (between, first, second) = placed.put in
-    entered_items between (entries.Put ticket item) q second
-    ∙ ap (λ (l : List ℕ). l ++ item ∷ []) (entered_items placed.until (entries.Hold ticket) between first ∙ append-nil (own_items placed.until) ∙ missed_items p (4 * ticket) placed.founds placed.until placed.missed)
-
-taken_items : (p : SeatView ℕ) (ticket item : ℕ) (q : SeatView ℕ) → Taken p ticket item q → own_items q ≡ own_items p
-taken_items p ticket item q taken =
-    let (between, first, second, it) = taken.removed in
-    entered_items between (entries.Free ticket) q second
-    ∙ append-nil (own_items between)
-    ∙ entered_items taken.until (entries.Take ticket) between first
-    ∙ append-nil (own_items taken.until) ∙ missed_items p (4 * ticket + 2) taken.founds taken.until taken.missed
+-- the items that a deed puts
+done_items : (p : SeatView ℕ) (did : Entry ℕ) (q : SeatView ℕ) → deeds q ≡ deeds p ++ did ∷ [] → own_items q ≡ own_items p ++ item_put did
+done_items p did q is = done_more item_put alike p did q is
+  where
+    alike : (entry : Entry ℕ) → item_put entry ≡ flat_map item_put (deed entry)
+    alike (entries.Hold t) = refl
+    alike (entries.Put t x) = refl
+    alike (entries.Take t) = refl
+    alike (entries.Free t) = refl
+    alike (entries.Miss expected found) = refl
 
 -- a put
-pub put_advances : (p q : CallerView ℕ) (owed ticket item : ℕ) → q.seat.number ≡ p.seat.number → HasPut p ticket item q
+pub put_advances : (p q : CallerView ℕ) (owed ticket item : ℕ) → MadePut p ticket item q
     → (let old : Desk = record { pass = p; owed = owed } in let new : Desk = record { pass = q; owed = owed } in Advances old new (ticket ∷ []) (item ∷ []))
-put_advances p q owed ticket item same put = record {
-  number = same;
-  under = placed_puts p.seat ticket item q.seat put.seat;
-  put = placed_items p.seat ticket item q.seat put.seat;
-  takes = ap (λ (l : List ℕ). length l + owed) (placed_takes p.seat ticket item q.seat put.seat);
+put_advances p q owed ticket item (calls, done) = record {
+  number = done.same.1;
+  under = done_puts p.seat (entries.Put ticket item) q.seat done.deeds_now;
+  put = done_items p.seat (entries.Put ticket item) q.seat done.deeds_now;
+  takes = ap (λ (l : List ℕ). length l + owed) (done_takes p.seat (entries.Put ticket item) q.seat done.deeds_now ∙ append-nil (own_takes p.seat));
 }
 
 -- a take that was owed
-pub take_advances : (p q : CallerView ℕ) (owed ticket item : ℕ) → 0 < owed → q.seat.number ≡ p.seat.number → HasTaken p ticket item q
+pub take_advances : (p q : CallerView ℕ) (owed ticket item : ℕ) → 0 < owed → MadeTake p ticket item q
     → (let old : Desk = record { pass = p; owed = owed } in let new : Desk = record { pass = q; owed = owed - 1 } in Advances old new [] [])
-take_advances p q owed ticket item some_owed same taken = record {
-  number = same;
-  under = taken_puts p.seat ticket item q.seat taken.seat ∙ sym (append-nil (own_puts p.seat));
-  put = taken_items p.seat ticket item q.seat taken.seat ∙ sym (append-nil (own_items p.seat));
+take_advances p q owed ticket item some_owed (calls, done) = record {
+  number = done.same.1;
+  under = done_puts p.seat (entries.Take ticket) q.seat done.deeds_now;
+  put = done_items p.seat (entries.Take ticket) q.seat done.deeds_now;
   takes =
-      let one : length (own_takes q.seat) ≡ length (own_takes p.seat ++ ticket ∷ []) = ap length (taken_takes p.seat ticket item q.seat taken.seat) in
+      let one : length (own_takes q.seat) ≡ length (own_takes p.seat ++ ticket ∷ []) = ap length (done_takes p.seat (entries.Take ticket) q.seat done.deeds_now) in
       omega (arith, one, length-append (own_takes p.seat) (ticket ∷ []), some_owed);
 }
 

@@ -26,8 +26,7 @@ item_put _ = []
 
 -- the items that are put, in order
 abbrev pub items_put : List (Event ℕ) → List ℕ
-items_put [] = []
-items_put (event ∷ log) = item_put event.entry ++ items_put log
+items_put log = flat_map (λ event. item_put event.entry) log
 
 -- Each seat put the numbers of its worker's lines, in order and under rising tickets, and took as many. The tickets are those below the number of lines, each put once and taken once
 pub record IsRelay (workers capacity count : ℕ) (book : BookView ℕ) : Type 0 where

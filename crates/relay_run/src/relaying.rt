@@ -1,6 +1,7 @@
 //! Relaying lines.
 ghost use Rattle.std.specs.Prelude.{◌≡◌, ◌<◌, ◌≤◌, All, IfOk};
 ghost use Rattle.tq_queue.specs.Laws.{IsSound};
+ghost use Rattle.relay_run.specs.Claim.{IsOrder};
 ghost use Rattle.relay_run.specs.Relay.{IsRelay, order_of};
 
 use crate::gathering::{Handed, places, written};
@@ -31,6 +32,7 @@ pub fn relay<R: Threads + Wait + Sync, G: Gate + Sync>(
     requires lines { lines ≤ MOST_LINES }
     requires workers { (1 ≤ workers) × (workers ≤ 64) }
     requires capacity { (1 ≤ capacity) × (capacity ≤ 65536) }
+    ensures told { IfOk result (λ relayed. IsOrder workers lines relayed.order.items) }
     ensures book { IfOk result (λ relayed. IsRelay workers capacity lines relayed.book) }
     ensures sound { IfOk result (λ relayed. IsSound relayed.book) }
     ensures order { IfOk result (λ relayed. relayed.order.items ≡ order_of lines relayed.book) }

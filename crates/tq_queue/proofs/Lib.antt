@@ -7,3 +7,5 @@ pub mod Dealing
 pub mod Parts
 pub mod Sound
 pub mod Ready
+pub mod Done
+pub mod Laws

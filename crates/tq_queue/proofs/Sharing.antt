@@ -6,6 +6,8 @@ use Rattle.std.proofs.lemmas.Bool.{cases_eq, eq-eqb}
 use Rattle.std.proofs.lemmas.List.Elements.{All-nil, All-cons, All-head, All-tail}
 use Rattle.std.proofs.lemmas.List.Sums.{sum_by-cons}
 use Rattle.fn_model.specs.Order.{sum_below}
+use Rattle.tq_queue.specs.Answers.{Answered}
+use Rattle.tq_queue.specs.Laws.{AnswersAreShared}
 
 pub sum_below-same : (n : ℕ) (f g : ℕ → ℕ) → ((p : ℕ) → p < n → f p ≡ g p) → sum_below n f ≡ sum_below n g
 sum_below-same zero f g same = refl
@@ -59,3 +61,7 @@ module _ {X : Type 0} (key : X → ℕ) where
       less : (p : ℕ) (b : Bool) → All P (cond b (x ∷ part xs p) (part xs p)) → All P (part xs p)
       less p true all = All-tail P x (part xs p) all
       less p false all = all
+
+-- what the answers of passes add up to is what those of each of them do
+pub answers_are_shared : AnswersAreShared
+answers_are_shared weight passes answers range = shared (λ (answer : Answered). answer.call.pass) weight passes answers range

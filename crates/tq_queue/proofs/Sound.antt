@@ -11,6 +11,7 @@ use Rattle.running.specs.Running.{upto, numbers_from}
 use Rattle.fn_model.specs.declared.Call.{Call}
 use Rattle.fn_model.specs.Order.{sum_below}
 use Rattle.fn_model.specs.Integer.{after}
+use Rattle.fn_core.specs.declared.Start.{Start}
 use Rattle.fn_core.specs.declared.Event as funnel
 use Rattle.fn_core.specs.declared.Move.TheVariants.{Glance}
 use Rattle.fn_core.specs.Calls.{CoreLog, calls_in, IsLegal}
@@ -27,7 +28,7 @@ use Rattle.tq_cells.specs.Seen as cells
 use Rattle.tq_queue.specs.Answers.{Answered, answered, answers_of, raised, lowered, raised_by, lowered_by, AddsOne, AreTickets}
 use Rattle.tq_queue.specs.Seen.{QueueView, CallerView, BookView, Begins, HasClosed, IsOf, AreAll, IsClosed, value_of, allowance}
 use Rattle.tq_queue.specs.Kept.{own_answers, own_puts, own_takes, tickets_put, tickets_taken, ticket_put, ticket_taken, IsOpen, Keeps}
-use Rattle.tq_queue.specs.Laws.{Rises, IsSound}
+use Rattle.tq_queue.specs.Laws.{Rises, IsSound, BooksHaveAnswers}
 use Rattle.tq_queue.proofs.Counting.{IsBounded, balanced, numbered, counted, rising, tick, tally}
 use Rattle.tq_queue.proofs.Keeping.{sum-replicate}
 use Rattle.tq_queue.proofs.Parts.{there, below, all_at, get-map, all_between}
@@ -55,12 +56,12 @@ range_answered : (P : Call → Type 0) (cap v : ℕ) (calls : List Call) → All
 range_answered P cap v [] all = All-nil (λ (a : Answered). P a.call)
 range_answered P cap v (c ∷ calls) all = All-cons (λ (a : Answered). P a.call) (record { call = c; met = v }) (answered cap (after cap v c.kind c.amount) calls) (All-head P c calls all) (range_answered P cap (after cap v c.kind c.amount) calls (All-tail P c calls all))
 
-book_range : (passes first : ℕ) (book : CoreLog) → IsLegal book → Begins passes first book.start → All (λ (a : Answered). a.call.pass < passes) (book_answers book)
+book_inside : (book : CoreLog) → IsLegal book → All (λ (a : Answered). a.call.pass < book.start.shape.passes) (book_answers book)
 unfolding book_answers
-book_range passes first book legal b =
-    let P : Call → Type 0 = λ call. call.pass < book.start.shape.passes in
-    subst (λ (n : ℕ). All (λ (a : Answered). a.call.pass < n) (book_answers book)) b.shape.0
-    (range_answered P book.start.cap book.start.opening (calls_in book) (calls_are_of_passes book.start book.log legal.0 legal.1))
+book_inside book legal = range_answered (λ call. call.pass < book.start.shape.passes) book.start.cap book.start.opening (calls_in book) (calls_are_of_passes book.start book.log legal.0 legal.1)
+
+book_range : (passes first : ℕ) (book : CoreLog) → IsLegal book → Begins passes first book.start → All (λ (a : Answered). a.call.pass < passes) (book_answers book)
+book_range passes first book legal b = subst (λ (n : ℕ). All (λ (a : Answered). a.call.pass < n) (book_answers book)) b.shape.0 (book_inside book legal)
 
 -- a pass's answers in the book are those that it has been told
 book_own : (t : TableView) (ps : List PassView) (book : CoreLog) → HasClosed t ps book → (k : ℕ) (p : PassView) → slice_get ps k ≡ Some p → p.seen.start ≡ t.start → answers_of p.number (book_answers book) ≡ own_answers p
@@ -70,6 +71,14 @@ book_own t ps book closed k p here start =
     let glance : List funnel.Event = record { pass = 0; step = Glance } ∷ [] in
     let begins : IsPrefix p.seen.log book.log = (has.begins.0 ++ glance, sym (append_assoc p.seen.log has.begins.0 glance) ∙ ap (λ (l : List funnel.Event). l ++ glance) has.begins.1 ∙ sym closed.closed.last) in
     answers_kept p.number p.seen book (closed.start ∙ sym start) closed.closed.legal begins (closed.calls k p here)
+
+-- so the book of a closed funnel has the answers of its passes, and no others
+pub books_have_answers : BooksHaveAnswers
+unfolding book_answers
+books_have_answers t ps book closed = (
+  λ k p here of. book_own t ps book closed k p here of.1,
+  subst (λ (s : Start). All (λ (a : Answered). a.call.pass < s.shape.passes) (book_answers book)) closed.start (book_inside book closed.closed.legal),
+)
 
 length_answered : (cap v : ℕ) (calls : List Call) → length (answered cap v calls) ≡ length calls
 length_answered cap v [] = refl

@@ -1,7 +1,7 @@
 -- What holds of a queue and of its passes between their calls.
 --     tickets_put entries, tickets_taken entries      the tickets that entries put and take, in order
 --     IsOpen queue, Keeps pass      what holds of each queue and of each pass
-use Rattle.std.specs.Prelude.{◌≡◌, ℕ, ◌≤◌, List, [], ◌∷◌, ◌++◌, length}
+use Rattle.std.specs.Prelude.{◌≡◌, ℕ, ◌≤◌, List, [], ◌∷◌, length, flat_map}
 use Rattle.fn_core.specs.Calls.{calls_in, IsIdle}
 use Rattle.fn_table.specs.Seen.{PassView}
 use Rattle.tq_cells.specs.declared.entry.Start.{Start}
@@ -38,13 +38,11 @@ module _ {T : Type 0} where
 
   -- the tickets that are put, in order
   abbrev pub tickets_put : List (Event T) → List ℕ
-  tickets_put [] = []
-  tickets_put (event ∷ log) = ticket_put event.entry ++ tickets_put log
+  tickets_put log = flat_map (λ event. ticket_put event.entry) log
 
   -- the tickets that are taken, in order
   abbrev pub tickets_taken : List (Event T) → List ℕ
-  tickets_taken [] = []
-  tickets_taken (event ∷ log) = ticket_taken event.entry ++ tickets_taken log
+  tickets_taken log = flat_map (λ event. ticket_taken event.entry) log
 
   -- what a seat has put, and what it has taken
   abbrev pub own_puts : SeatView T → List ℕ

@@ -2,6 +2,7 @@
 ghost use Rattle.std.specs.Prelude.{◌≡◌, ◌≤◌, ◌<◌, ◌+◌, ◌^◌, MatchResult};
 ghost use Rattle.tq_cells.specs.Seen as seats;
 ghost use Rattle.tq_queue.specs.Seen.{IsOf, left_in};
+ghost use Rattle.tq_queue.specs.Claims.{MadePut, MetFull};
 ghost use Rattle.tq_queue.specs.Moves.{HasPut, FoundFull, Placed};
 
 use crate::passes::QueuePass;
@@ -45,7 +46,8 @@ pub fn try_put<T, R: Wait>(
 ) -> (QueuePass<T>, Result<u64, Full<T>>)
     requires together { IsOf queue.now pass }
     requires left { 1 ≤ left_in pass }
-    ensures outcome { MatchResult result.1 (λ ticket. HasPut pass ticket item result.0) (λ full. (full.item ≡ item) × FoundFull pass result.0) }
+    ensures made { MatchResult result.1 (λ ticket. MadePut pass ticket item result.0) (λ full. (full.item ≡ item) × MetFull pass result.0) }
+    ensures way { MatchResult result.1 (λ ticket. HasPut pass ticket item result.0) (λ full. FoundFull pass result.0) }
     ensures together { IsOf queue.now result.0 }
     ensures number { result.0.seat.number ≡ pass.seat.number }
     ensures left { left_in pass ≤ left_in result.0 + 1 }

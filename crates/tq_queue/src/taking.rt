@@ -2,6 +2,7 @@
 ghost use Rattle.std.specs.Prelude.{◌≡◌, ◌≤◌, ◌<◌, ◌+◌, ◌^◌, MatchResult};
 ghost use Rattle.tq_cells.specs.Seen as seats;
 ghost use Rattle.tq_queue.specs.Seen.{IsOf, left_in};
+ghost use Rattle.tq_queue.specs.Claims.{MadeTake, MetEmpty};
 ghost use Rattle.tq_queue.specs.Moves.{HasTaken, FoundEmpty, Taken};
 
 use crate::passes::QueuePass;
@@ -41,7 +42,8 @@ pub fn try_take<T, R: Wait>(
 ) -> (QueuePass<T>, Result<(u64, T), Empty>)
     requires together { IsOf queue.now pass }
     requires left { 1 ≤ left_in pass }
-    ensures outcome { MatchResult result.1 (λ taken. HasTaken pass taken.0 taken.1 result.0) (λ _. FoundEmpty pass result.0) }
+    ensures made { MatchResult result.1 (λ taken. MadeTake pass taken.0 taken.1 result.0) (λ _. MetEmpty pass result.0) }
+    ensures way { MatchResult result.1 (λ taken. HasTaken pass taken.0 taken.1 result.0) (λ _. FoundEmpty pass result.0) }
     ensures together { IsOf queue.now result.0 }
     ensures number { result.0.seat.number ≡ pass.seat.number }
     ensures left { left_in pass ≤ left_in result.0 + 1 }

@@ -1,41 +1,37 @@
 -- The item that one pass of a queue has put is the one that the other has taken.
-use Rattle.std.proofs.Common.{◌≡◌, ℕ, List, [], ◌∷◌, ◌++◌, length, map, refl, sym, ◌∙◌, ap, subst, arith, append_assoc}
+use Rattle.std.proofs.Common.{◌≡◌, ℕ, List, [], ◌∷◌, ◌++◌, length, map, refl, sym, ◌∙◌, ap, subst, arith}
 use Rattle.std.specs.Prelude.{nat_lt, if◌then◌else◌}
 use Rattle.std.proofs.lemmas.Bool.Decides.{nat_tests}
 use mathlib.Core.List.{IsPrefix}
 use Rattle.running.specs.Running.{upto}
 use Rattle.fn_model.specs.declared.Kind.TheVariants.{Add}
-use Rattle.fn_table.specs.Called.{call_of}
+use Rattle.fn_table.specs.Claims.{next_of, Made}
 use Rattle.fn_table.specs.Seen.{PassView}
-use Rattle.tq_cells.specs.declared.entry.Entry.TheVariants as entries
 use Rattle.tq_cells.specs.declared.entry.Event.{Event}
 use Rattle.tq_cells.specs.declared.entry.Start.{Start}
 use Rattle.tq_cells.specs.Laws.{IsExact, puts}
-use Rattle.tq_cells.specs.Seen as cells
-use Rattle.tq_cells.proofs.Tickets.{puts_and_takes_stay, entries_stand_alone}
+use Rattle.tq_cells.proofs.Tickets.{puts_and_takes_stay}
 use Rattle.tq_queue.specs.Answers.{Answered, raised, lowered, raised_by, lowered_by}
 use Rattle.tq_queue.specs.Kept.{own_answers}
-use Rattle.tq_queue.specs.Seen.{QueueView, CallerView, BookView, OpensWith, IsClosed, value_of, fresh, fresh_passes}
-use Rattle.tq_queue.specs.Moves.{Calls, Placed, Taken}
+use Rattle.tq_queue.specs.Seen.{QueueView, CallerView, BookView, OpensWith, IsOf, IsClosed, value_of, fresh, fresh_passes}
+use Rattle.tq_queue.specs.Claims.{MadePut, MadeTake, MetFull, MetEmpty}
 use Rattle.tq_queue.specs.Laws.{IsSound}
+use Rattle.tq_queue.specs.declared.putting.Full.{Full}
+use Rattle.tq_queue.specs.declared.taking.Empty.{Empty}
+use Rattle.tq_queue.proofs.Laws.{calls_are_answered}
 use Rattle.std.proofs.lemmas.List.Sums.{sum_by-cons}
 use Rattle.std.specs.Prelude.{Result, Ok, Err, MatchResult}
 use Rattle.std.proofs.lemmas.List.{length-append}
-use Rattle.tq_queue.specs.declared.putting.Full.{Full}
-use Rattle.tq_queue.specs.declared.taking.Empty.{Empty}
-use Rattle.tq_queue.specs.Seen.{IsOf}
-use Rattle.tq_queue.specs.Moves.{HasPut, HasTaken, FoundFull, FoundEmpty}
 use Rattle.uses.specs.Books.{IsBookOf}
 use Rattle.uses.specs.Handed.{HasGiven, HasGot}
 use Rattle.uses.proofs.Books.{none_yet, is_book}
-use Rattle.uses.proofs.Counts.{one_more}
 use Rattle.uses.proofs.Totals.{count_of}
 
 -- the first call of a pass, an addition of 1
-added_up : (p q : PassView) (ticket : ℕ) → own_answers p ≡ [] → Calls p Add ticket q → (raised (own_answers q) ≡ 1) × (lowered (own_answers q) ≡ 0)
-added_up p q ticket none (added, waited, met) =
-    let last : Answered = record { call = call_of p Add 1; met = added.before } in
-    let is : own_answers q ≡ last ∷ [] = one_more p Add 1 added q waited ∙ ap (λ (xs : List Answered). xs ++ last ∷ []) none in
+added_up : (p q : PassView) (ticket : ℕ) → own_answers p ≡ [] → Made p Add 1 ticket q → (raised (own_answers q) ≡ 1) × (lowered (own_answers q) ≡ 0)
+added_up p q ticket none made =
+    let last : Answered = record { call = next_of p Add 1; met = ticket } in
+    let is : own_answers q ≡ last ∷ [] = calls_are_answered p Add 1 ticket q made ∙ ap (λ (xs : List Answered). xs ++ last ∷ []) none in
     (omega (arith, ap raised is, sum_by-cons (λ (a : Answered). raised_by a.call.kind a.call.amount) last []), omega (arith, ap lowered is, sum_by-cons (λ (a : Answered). lowered_by a.call.kind a.call.amount a.met) last []))
 
 -- two that are left after two more were taken off the end
@@ -58,22 +54,22 @@ module _ {T : Type 0} where
     pub free : PassView
     pub is : r ≡ record p { free = free }
 
-  pub looked_again : (q : QueueView) (p r s : CallerView T) (item : T) (put : Result ℕ (Full T)) (full : Full T) → HasLooked q p r → IsOf q s → put ≡ Err full → MatchResult put (λ ticket. HasPut r ticket item s) (λ full. (full.item ≡ item) × FoundFull r s)
+  pub looked_again : (q : QueueView) (p r s : CallerView T) (item : T) (put : Result ℕ (Full T)) (full : Full T) → HasLooked q p r → IsOf q s → put ≡ Err full → MatchResult put (λ ticket. MadePut r ticket item s) (λ full. (full.item ≡ item) × MetFull r s)
       → HasLooked q p s × (full.item ≡ item)
   looked_again q p r s item put full was together is outcome =
-      let found : (full.item ≡ item) × FoundFull r s = subst (λ (x : Result ℕ (Full T)). MatchResult x (λ ticket. HasPut r ticket item s) (λ full. (full.item ≡ item) × FoundFull r s)) is outcome in
-      (record { together = together; free = s.free; is = found.1.rest ∙ ap (λ (x : CallerView T). record x { free = s.free }) was.is }, found.0)
+      let found : (full.item ≡ item) × MetFull r s = subst (λ (x : Result ℕ (Full T)). MatchResult x (λ ticket. MadePut r ticket item s) (λ full. (full.item ≡ item) × MetFull r s)) is outcome in
+      (record { together = together; free = s.free; is = found.1.1 ∙ ap (λ (x : CallerView T). record x { free = s.free }) was.is }, found.0)
 
   pub has_given : (q : QueueView) (p r s : CallerView T) (item given : T) (put : Result ℕ (Full T)) (ticket : ℕ) → HasLooked q p r → IsOf q s → s.seat.number ≡ r.seat.number → item ≡ given → put ≡ Ok ticket
-      → MatchResult put (λ ticket. HasPut r ticket item s) (λ full. (full.item ≡ item) × FoundFull r s) → HasGiven q p given s
+      → MatchResult put (λ ticket. MadePut r ticket item s) (λ full. (full.item ≡ item) × MetFull r s) → HasGiven q p given s
   has_given q p r s item given put ticket was together named same is outcome =
-      let found : HasPut r ticket item s = subst (λ (x : Result ℕ (Full T)). MatchResult x (λ ticket. HasPut r ticket item s) (λ full. (full.item ≡ item) × FoundFull r s)) is outcome in
+      let found : MadePut r ticket item s = subst (λ (x : Result ℕ (Full T)). MatchResult x (λ ticket. MadePut r ticket item s) (λ full. (full.item ≡ item) × MetFull r s)) is outcome in
       record {
         together = together;
         named = named ∙ ap (λ (x : CallerView T). x.seat.number) was.is;
         free = was.free;
         ticket = ticket;
-        put = subst (λ (x : CallerView T). HasPut x ticket given s) was.is (subst (λ (x : T). HasPut r ticket x s) same found);
+        put = subst (λ (x : CallerView T). MadePut x ticket given s) was.is (subst (λ (x : T). MadePut r ticket x s) same found);
       }
 
   -- the pass has at most found no item
@@ -82,56 +78,38 @@ module _ {T : Type 0} where
     pub items : PassView
     pub is : r ≡ record p { items = items }
 
-  pub sought_again : (q : QueueView) (p r s : CallerView T) (taken : Result (ℕ × T) Empty) (empty : Empty) → HasSought q p r → IsOf q s → taken ≡ Err empty → MatchResult taken (λ both. HasTaken r both.0 both.1 s) (λ _. FoundEmpty r s) → HasSought q p s
+  pub sought_again : (q : QueueView) (p r s : CallerView T) (taken : Result (ℕ × T) Empty) (empty : Empty) → HasSought q p r → IsOf q s → taken ≡ Err empty → MatchResult taken (λ both. MadeTake r both.0 both.1 s) (λ _. MetEmpty r s) → HasSought q p s
   sought_again q p r s taken empty was together is outcome =
-      let found : FoundEmpty r s = subst (λ (x : Result (ℕ × T) Empty). MatchResult x (λ both. HasTaken r both.0 both.1 s) (λ _. FoundEmpty r s)) is outcome in
-      record { together = together; items = s.items; is = found.rest ∙ ap (λ (x : CallerView T). record x { items = s.items }) was.is }
+      let found : MetEmpty r s = subst (λ (x : Result (ℕ × T) Empty). MatchResult x (λ both. MadeTake r both.0 both.1 s) (λ _. MetEmpty r s)) is outcome in
+      record { together = together; items = s.items; is = found.1 ∙ ap (λ (x : CallerView T). record x { items = s.items }) was.is }
 
   pub has_got : (q : QueueView) (p r s : CallerView T) (taken : Result (ℕ × T) Empty) (ticket : ℕ) (item : T) → HasSought q p r → IsOf q s → s.seat.number ≡ r.seat.number → taken ≡ Ok (ticket, item)
-      → MatchResult taken (λ both. HasTaken r both.0 both.1 s) (λ _. FoundEmpty r s) → HasGot q p item s
+      → MatchResult taken (λ both. MadeTake r both.0 both.1 s) (λ _. MetEmpty r s) → HasGot q p item s
   has_got q p r s taken ticket item was together named is outcome =
-      let found : HasTaken r ticket item s = subst (λ (x : Result (ℕ × T) Empty). MatchResult x (λ both. HasTaken r both.0 both.1 s) (λ _. FoundEmpty r s)) is outcome in
+      let found : MadeTake r ticket item s = subst (λ (x : Result (ℕ × T) Empty). MatchResult x (λ both. MadeTake r both.0 both.1 s) (λ _. MetEmpty r s)) is outcome in
       record {
         together = together;
         named = named ∙ ap (λ (x : CallerView T). x.seat.number) was.is;
         items = was.items;
         ticket = ticket;
-        taken = subst (λ (x : CallerView T). HasTaken x ticket item s) was.is found;
+        taken = subst (λ (x : CallerView T). MadeTake x ticket item s) was.is found;
       }
 
-  -- what a seat has put stands in the book
-  put_there : (p q : cells.SeatView T) (ticket : ℕ) (item : T) (start : Start) (log : List (Event T)) → Placed p ticket item q → IsExact start log → IsPrefix q.log log → puts ticket log ≡ item ∷ []
-  put_there p q ticket item start log placed exact begins =
-      let (between, first, second) = placed.put in
-      let put : Event T = record { seat = between.number; entry = entries.Put ticket item } in
-      let is : second.before ++ put ∷ begins.0 ≡ log = sym (append_assoc second.before (put ∷ []) begins.0) ∙ ap (λ (l : List (Event T)). l ++ begins.0) (sym (ap (λ (s : cells.SeatView T). s.log) second.now)) ∙ begins.1 in
-      let alone = entries_stand_alone start second.before begins.0 between.number ticket in
-      ap (puts ticket) (sym is) ∙ alone.0 item (subst (IsExact start) (sym is) exact)
-
-  -- .. and so does what a seat has taken
-  taken_there : (p q : cells.SeatView T) (ticket : ℕ) (item : T) (start : Start) (log : List (Event T)) → Taken p ticket item q → IsExact start log → IsPrefix q.log log → puts ticket log ≡ item ∷ []
-  taken_there p q ticket item start log taken exact begins =
-      let (between, first, second, it) = taken.removed in
-      let free : Event T = record { seat = between.number; entry = entries.Free ticket } in
-      let more : List (Event T) = second.begins.0 ++ (free ∷ [] ++ begins.0) in
-      let is : between.log ++ more ≡ log =
-      sym (append_assoc between.log second.begins.0 (free ∷ [] ++ begins.0)) ∙ ap (λ (l : List (Event T)). l ++ (free ∷ [] ++ begins.0)) second.begins.1
-      ∙ sym (append_assoc second.before (free ∷ []) begins.0) ∙ ap (λ (l : List (Event T)). l ++ begins.0) (sym (ap (λ (s : cells.SeatView T). s.log) second.now)) ∙ begins.1 in
-      let stay = puts_and_takes_stay start between.log more ticket (subst (IsExact start) (sym is) exact) in
-      ap (puts ticket) (sym is) ∙ stay.0 item it
+  -- what was put under a ticket, as a seat has seen it, stays in the book
+  stays_there : (seen log : List (Event T)) (ticket : ℕ) (item : T) (start : Start) → IsExact start log → IsPrefix seen log → puts ticket seen ≡ item ∷ [] → puts ticket log ≡ item ∷ []
+  stays_there seen log ticket item start exact begins under = ap (puts ticket) (sym begins.1) ∙ (puts_and_takes_stay start seen begins.0 ticket (subst (IsExact start) (sym begins.1) exact)).0 item under
 
   module _ (q : QueueView) (giver taker first second : CallerView T) (item got : T) (book : BookView T) (opens : OpensWith q 1 2) (giver_is : giver ≡ fresh q 0) (taker_is : taker ≡ fresh q 1)
       (gave : HasGiven q giver item first) (took : HasGot q taker got second) (closed : IsClosed q (first ∷ second ∷ []) book) (sound : IsSound book) where
     tail_is : IsBookOf q.tail first.tail second.tail book.tail
     tail_is =
-        let (added, waited, met) = gave.put.tail in
-        is_book q.tail first.tail second.tail (first.tail ∷ second.tail ∷ []) book.tail refl opens.funnels.tail.shape.0 gave.together.1 (waited.later.number ∙ ap (λ (p : CallerView T). p.tail.number) giver_is)
-        took.together.1 (ap (λ (p : PassView). p.number) took.taken.tail ∙ ap (λ (p : CallerView T). p.tail.number) taker_is) closed.tail.start closed.tail.closed closed.tail.calls
+        is_book q.tail first.tail second.tail (first.tail ∷ second.tail ∷ []) book.tail refl opens.funnels.tail.shape.0 gave.together.1 (gave.put.0.drawn.same.1 ∙ ap (λ (p : CallerView T). p.tail.number) giver_is)
+        took.together.1 (ap (λ (p : PassView). p.number) took.taken.0.kept ∙ ap (λ (p : CallerView T). p.tail.number) taker_is) closed.tail
 
     pub one_ticket : value_of book.tail ≡ 1
     one_ticket =
-        let up = added_up giver.tail first.tail gave.ticket (ap (λ (p : CallerView T). own_answers p.tail) giver_is ∙ none_yet q.tail 0) gave.put.tail in
-        let none : own_answers second.tail ≡ [] = ap own_answers took.taken.tail ∙ ap (λ (p : CallerView T). own_answers p.tail) taker_is ∙ none_yet q.tail 1 in
+        let up = added_up giver.tail first.tail gave.ticket (ap (λ (p : CallerView T). own_answers p.tail) giver_is ∙ none_yet q.tail 0) gave.put.0.drawn in
+        let none : own_answers second.tail ≡ [] = ap own_answers took.taken.0.kept ∙ ap (λ (p : CallerView T). own_answers p.tail) taker_is ∙ none_yet q.tail 1 in
         let opening : q.tail.start.opening ≡ 0 = opens.funnels.tail.opening in
         let cap : q.tail.start.cap ≡ 9223372036854775807 = opens.funnels.tail.cap in
         omega (arith, count_of q.tail first.tail second.tail 1 0 book.tail tail_is up.0 up.1 (ap raised none) (ap lowered none) (omega (arith, opening, cap)), opening)
@@ -139,9 +117,10 @@ module _ {T : Type 0} where
     pub same_item : got ≡ item
     same_item =
         let exact = closed.cells.exact in
-        let put = put_there giver.seat first.seat gave.ticket item book.cells.start book.cells.log gave.put.seat exact (closed.cells.each 0 first.seat refl).begins in
-        let taken = taken_there taker.seat second.seat took.ticket got book.cells.start book.cells.log took.taken.seat exact (closed.cells.each 1 second.seat refl).begins in
-        let zero_put : gave.ticket ≡ 0 = only_zero gave.ticket (value_of book.tail) (length (puts gave.ticket book.cells.log)) (ap length put) one_ticket (sound.puts gave.ticket) in
-        let zero_taken : took.ticket ≡ 0 = only_zero took.ticket (value_of book.tail) (length (puts took.ticket book.cells.log)) (ap length taken) one_ticket (sound.puts took.ticket) in
-        let both : got ∷ [] ≡ item ∷ [] = sym taken ∙ ap (λ n. puts n book.cells.log) (zero_taken ∙ sym zero_put) ∙ put in
+        let log : List (Event T) = book.cells.log in
+        let put = stays_there first.seat.log log gave.ticket item book.cells.start exact (closed.cells.each 0 first.seat refl).begins gave.put.1.under in
+        let taken = stays_there second.seat.log log took.ticket got book.cells.start exact (closed.cells.each 1 second.seat refl).begins took.taken.1.under in
+        let zero_put : gave.ticket ≡ 0 = only_zero gave.ticket (value_of book.tail) (length (puts gave.ticket log)) (ap length put) one_ticket (sound.puts gave.ticket) in
+        let zero_taken : took.ticket ≡ 0 = only_zero took.ticket (value_of book.tail) (length (puts took.ticket log)) (ap length taken) one_ticket (sound.puts took.ticket) in
+        let both : got ∷ [] ≡ item ∷ [] = sym taken ∙ ap (λ n. puts n log) (zero_taken ∙ sym zero_put) ∙ put in
         cc

@@ -12,8 +12,9 @@ use Rattle.fn_core.specs.Calls.{CoreLog, calls_in}
 use Rattle.fn_table.specs.Seen.{TableView, PassView}
 use Rattle.tq_queue.specs.Answers.{Answered, answered, answers_of, raised, lowered, raised_by, lowered_by}
 use Rattle.tq_queue.specs.Kept.{own_answers}
-use Rattle.tq_queue.proofs.Sharing.{shared}
-use Rattle.uses.specs.Books.{answers_in, IsBookOf}
+use Rattle.tq_queue.specs.Laws.{answers_in}
+use Rattle.tq_queue.proofs.Laws.{answers_are_shared}
+use Rattle.uses.specs.Books.{IsBookOf}
 use Rattle.uses.specs.Counts.{HasAdded, HasDrawn, HasReturned, Settles, MayGive, owes}
 
 -- an addition that no cap stops, and that nothing else is taken from
@@ -35,7 +36,7 @@ counted_up cap v (c ∷ calls) down room =
 
 -- what all calls come to is what those of the two passes do
 by_two : (weight : Answered → ℕ) (answers : List Answered) → All (λ (a : Answered). a.call.pass < 2) answers → sum_by weight answers ≡ sum_by weight (answers_of 0 answers) + sum_by weight (answers_of 1 answers)
-by_two weight answers inside = let both = shared (λ (a : Answered). a.call.pass) weight 2 answers inside in omega (arith, both)
+by_two weight answers inside = let both = answers_are_shared weight 2 answers inside in omega (arith, both)
 
 -- an integer that two passes have raised, and not lowered, ends at the sum
 pub count_of : (t : TableView) (first second : PassView) (n m : ℕ) (book : CoreLog) → IsBookOf t first second book → raised (own_answers first) ≡ n → lowered (own_answers first) ≡ 0 → raised (own_answers second) ≡ m → lowered (own_answers second) ≡ 0

@@ -1,17 +1,13 @@
 -- Two passes of one funnel, from its opening to its book.
---     answers_in book      all calls of a book, each with the integer that it met
 --     IsNew table allowance pass, AreNew table first second      passes that have made no call yet
 --     IsBookOf table first second book      the book that the funnel of these two passes closed into
-use Rattle.std.specs.Prelude.{◌≡◌, ◌<◌, ℕ, List, [], All, get_or}
-use Rattle.fn_core.specs.Calls.{CoreLog, calls_in, IsLegal}
+use Rattle.std.specs.Prelude.{◌≡◌, ◌<◌, ℕ, [], All, get_or}
+use Rattle.fn_core.specs.Calls.{CoreLog, IsLegal}
 use Rattle.fn_table.specs.Seen.{TableView, PassView, IsOf}
 use Rattle.fn_table.specs.Claims.{left, Rests}
-use Rattle.tq_queue.specs.Answers.{Answered, answered, answers_of}
+use Rattle.tq_queue.specs.Answers.{answers_of}
 use Rattle.tq_queue.specs.Kept.{own_answers}
-
--- all calls of a book, in order, each with the integer that it met
-abbrev pub answers_in : CoreLog → List Answered
-answers_in book = answered book.start.cap book.start.opening (calls_in book)
+use Rattle.tq_queue.specs.Laws.{answers_in}
 
 -- the pass is one of this funnel, makes no call, has made none, and may still ask for so much
 pub record IsNew (t : TableView) (allowance : ℕ) (p : PassView) : Type 0 where

@@ -1,7 +1,9 @@
 -- What the queue's book tells, and the order that was written.
-use Rattle.std.proofs.Common.{ap, sym, ◌∙◌, arith, length}
+use Rattle.std.proofs.Common.{ap, sym, subst, ◌∙◌, arith, length}
 use Rattle.std.proofs.lemmas.List.{length-replicate}
 use Rattle.tq_cells.specs.declared.entry.Start.{Start}
+use Rattle.relay_run.specs.Claim.{IsOrder}
+use Rattle.relay_run.proofs.Ordered.{relays_are_ordered}
 use Rattle.relay_run.proofs.Handing.{handed, engaged_count, relay_book, tickets_within, relay_order, relay_within}
 use Rattle.relay_run.proofs.relaying.relay.Goals as goal
 
@@ -47,6 +49,13 @@ pub returns-clause-order : goal.returns-clause-order
 returns-clause-order g c =
     let all = handed c.in_ok-queue.queue c.args.workers c.args.lines (ap (λ (s : Start). s.seats) c.in_ok-queue.ensures.queue.cells) c.in_ok-all.all.items c.worked.result.items c.take_in-handed.result.passes.items c.take_in-handed.result.tickets.items c.in_ok-all.ensures.numbers c.in_ok-all.ensures.places c.worked.ensures.same c.worked.ensures.done c.take_in-handed.ensures.passes c.take_in-handed.ensures.tickets in
     relay_order c.in_ok-queue.queue c.args.workers c.args.capacity c.args.lines c.in_ok-queue.ensures.queue.cells c.requires.workers.0 c.take_in-handed.result.passes.items c.take_in-handed.result.tickets.items all c.close-book.result c.close-book.ensures.closed c.close-book.ensures.sound c.in_ok-order.order.items c.written-order.result.items (ap length c.in_ok-order.ensures ∙ length-replicate c.args.lines 0) c.written-order.ensures
+
+pub returns-clause-told : goal.returns-clause-told
+returns-clause-told g c =
+    let all = handed c.in_ok-queue.queue c.args.workers c.args.lines (ap (λ (s : Start). s.seats) c.in_ok-queue.ensures.queue.cells) c.in_ok-all.all.items c.worked.result.items c.take_in-handed.result.passes.items c.take_in-handed.result.tickets.items c.in_ok-all.ensures.numbers c.in_ok-all.ensures.places c.worked.ensures.same c.worked.ensures.done c.take_in-handed.ensures.passes c.take_in-handed.ensures.tickets in
+    let book = relay_book c.in_ok-queue.queue c.args.workers c.args.capacity c.args.lines c.in_ok-queue.ensures.queue.cells c.requires.workers.0 c.take_in-handed.result.passes.items c.take_in-handed.result.tickets.items all c.close-book.result c.close-book.ensures.closed c.close-book.ensures.sound in
+    let order = relay_order c.in_ok-queue.queue c.args.workers c.args.capacity c.args.lines c.in_ok-queue.ensures.queue.cells c.requires.workers.0 c.take_in-handed.result.passes.items c.take_in-handed.result.tickets.items all c.close-book.result c.close-book.ensures.closed c.close-book.ensures.sound c.in_ok-order.order.items c.written-order.result.items (ap length c.in_ok-order.ensures ∙ length-replicate c.args.lines 0) c.written-order.ensures in
+    subst (IsOrder c.args.workers c.args.lines) (sym order) (relays_are_ordered c.args.workers c.args.capacity c.args.lines c.close-book.result book)
 
 pub returns-clause-within : goal.returns-clause-within
 returns-clause-within g c =

@@ -15,5 +15,5 @@ pub loop-done-preserved : goal.loop-done-preserved
 loop-done-preserved g c =
     let so_far = c.loop-done.invariant in
     let made = c.add-next.ensures.made in
-    let added = added_one c.args.funnel.now c.args.pass c.loop-done.pass c.add-next.result.0 c.loop-done._done c.add-next.result.1 so_far.added made c.add-next.ensures.way in
+    let added = added_one c.args.funnel.now c.args.pass c.loop-done.pass c.add-next.result.0 c.loop-done._done c.add-next.result.1.before so_far.added made in
     record { together = added.follows.together; rests = added.follows.rests; room = omega (arith, so_far.room, made.spent); added = added }

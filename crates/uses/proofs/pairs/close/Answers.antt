@@ -9,4 +9,5 @@ returns c =
     let first : PassView = c.args.first in
     let second : PassView = c.args.second in
     let are : c.push-2.new.self.items ≡ first ∷ second ∷ [] = c.in_ok-push-2.ensures.items ∙ ap (λ (ps : List PassView). ps ++ second ∷ []) (c.in_ok-push.ensures.items ∙ ap (λ (ps : List PassView). ps ++ first ∷ []) c.new-passes.ensures.items) in
-    is_book c.args.funnel first second c.push-2.new.self.items c.close.result are c.requires.two c.requires.passes.0.together c.requires.passes.0.named c.requires.passes.1.together c.requires.passes.1.named c.close.ensures.start c.close.ensures.passes c.close.ensures.calls
+    is_book c.args.funnel first second c.push-2.new.self.items c.close.result are c.requires.two c.requires.passes.0.together c.requires.passes.0.named c.requires.passes.1.together c.requires.passes.1.named
+    (record { start = c.close.ensures.start; closed = c.close.ensures.passes; calls = c.close.ensures.calls })
