@@ -1,5 +1,5 @@
 -- A desk after one of its passes has made a call: what it claims, and how the call was made.
-use Rattle.std.proofs.Common.{◌≡◌, ◌<◌, ◌≤◌, ◌⊎◌, get_or, get_or-set_same, get_or-set_other, ◌-◌, min, true, false, ℕ, List, map, set, length, slice_get, Option, Some, None, Bool, Vec, refl, sym, ap, ◌∙◌, subst, arith, inl, inr}
+use Rattle.std.proofs.Common.{◌≡◌, ◌+◌, ◌<◌, ◌≤◌, ◌⊎◌, get_or, get_or-set_same, get_or-set_other, ◌-◌, min, true, false, ℕ, List, map, set, length, slice_get, Option, Some, None, Bool, Vec, refl, sym, ap, ◌∙◌, subst, arith, inl, inr}
 use Rattle.std.proofs.lemmas.List.{with_items_is, set-set, length-set}
 use Rattle.std.proofs.lemmas.Bool.{cases_eq}
 use Rattle.std.proofs.lemmas.Option.{slice_get_cases, slice_get_within, get_or_from_slice_get}
@@ -17,13 +17,13 @@ use Rattle.fn_table.specs.Seen.{TableView, PassView, IsOf, Stepped}
 use Rattle.fn_table.specs.Later.{IsLater}
 use Rattle.fn_table.proofs.Later.{later_by}
 use Rattle.fn_table.specs.Called.{call_of, HasCalled}
-use Rattle.fn_table.specs.Claims.{Rests, Made}
+use Rattle.fn_table.specs.Claims.{left, Rests, Made}
 use Rattle.fn_funnel.specs.declared.waiting.Added.{Added}
 use Rattle.fn_funnel.specs.Waiting.{Waited, IsStraight, is_one_step}
 use Rattle.quota_pool.specs.declared.moved.Moved.{Moved}
 use Rattle.quota_pool.specs.declared.closing.Closing.{Closing}
 use Rattle.quota_pool.specs.Rooms.{HasPlace, KeepsRoom}
-use Rattle.quota_pool.specs.Views.{PoolView, DeskView, held, AreFull, Belongs}
+use Rattle.quota_pool.specs.Views.{PoolView, DeskView, held, AreFull, Belongs, left_in, left_at}
 use Rattle.quota_pool.specs.Claims.{MadeAt}
 use Rattle.quota_pool.specs.Calls.{Called, WentAt}
 use Rattle.quota_pool.proofs.Places.{held-map, full-map, held-set}
@@ -143,6 +143,13 @@ directed_by p q amount before n later called way moved alone = record { later = 
 -- a read
 pub read_by : (p q : PassView) (before : ℕ) → Stepped p (Load purpose.Read) before q → HasCalled p Read 0 before q → IsAlone q.seen (call_of p Read 0) → Called p Read false 0 (record { before = before; moved = 0; way = None }) q
 read_by p q before stepped called alone = record { later = later_by p (Load purpose.Read) before q stepped; called = called; moved = refl; way = stepped; entered = alone }
+
+-- what the desk has left at the tenant after a call
+pub left_after : (pool : PoolView) (old : DeskView) (tenant : ℕ) (kind : Kind) (amount : ℕ) (answer : Moved) (new : DeskView) → MadeAt pool old tenant kind amount answer new → left_at new tenant + amount ≡ left_at old tenant
+left_after pool old tenant kind amount answer new call =
+    let inside = slice_get_within old.passes tenant call.pass call.at in
+    let now : left_at new tenant ≡ left call.after = ap (λ (d : DeskView). left_at d tenant) call.desk ∙ ap left_in (slice_get-set_same old.passes tenant call.after inside) in
+    ap (λ (n : ℕ). n + amount) now ∙ call.made.spent ∙ sym (ap left_in call.at)
 
 -- the desk of the first worker keeps its room
 pub room_kept : (closing : Option Closing) (pool : PoolView) (old : DeskView) (tenant : ℕ) (kind : Kind) (amount : ℕ) (answer : Moved) (new : DeskView) → KeepsRoom closing old → MadeAt pool old tenant kind amount answer new → KeepsRoom closing new

@@ -6,7 +6,8 @@ use Rattle.std.specs.Prelude.{remove}
 use Rattle.std.specs.Vec.{with_items}
 use Rattle.std.proofs.lemmas.Option.{slice_get-map, slice_get_cases, slice_get_within, slice_get-get_or, get_or_from_slice_get}
 use Rattle.std.specs.Option.{option_map, option_to_list}
-use Rattle.running.specs.Running.{numbers_from, upto}
+use Rattle.running.specs.Running.{upto}
+use Rattle.running.proofs.Lists.{length_numbers}
 use Rattle.fn_core.specs.Calls.{CoreLog, IsIdle}
 use Rattle.fn_table.specs.Seen.{TableView, PassView, IsOf}
 use Rattle.fn_table.specs.Claims.{Rests}
@@ -33,11 +34,6 @@ all_more P x xs here more (suc k) d within = more k d (omega arith)
 -- what is found in a place that is in a list
 pub found_at : {A : Type 0} (xs : List A) (i : ℕ) → i < length xs → (x : A) × (slice_get xs i ≡ Some x)
 found_at xs i within = elim ((slice_get_cases xs i).1) [ inl (x, inside, at, got) ↦ (x, at) | inr past ↦ absurd (omega (arith, within, past.0)) ]
-
--- so many numbers
-pub length_numbers : (from count : ℕ) → length (numbers_from from count) ≡ count
-length_numbers from zero = refl
-length_numbers from (suc count) = ap suc (length_numbers (suc from) count)
 
 -- the desks are as many as the workers
 pub count_of_desks : (ds : List DeskView) (workers : ℕ) → map (λ d. d.worker) ds ≡ upto workers → length ds ≡ workers

@@ -1,5 +1,5 @@
 -- A pool's tenants and desks as it opens.
-use Rattle.std.proofs.Common.{◌≡◌, ◌≢◌, ◌+◌, ◌<◌, ◌≤◌, All, ℕ, zero, suc, ◌-◌, List, [], ◌∷◌, ◌++◌, map, set, take, drop, length, get_or, slice_get, Some, None, refl, sym, ap, ◌∙◌, subst, arith, inl, inr, ◌⊎◌, Bool, true, false, Vec, sum, ◌^◌}
+use Rattle.std.proofs.Common.{◌≡◌, ◌≢◌, ◌+◌, ◌<◌, ◌≤◌, All, ℕ, zero, suc, ◌-◌, List, [], ◌∷◌, ◌++◌, map, set, take, drop, length, get_or, slice_get, Option, Some, None, refl, sym, ap, ◌∙◌, subst, arith, inl, inr, ◌⊎◌, Bool, true, false, Vec, sum, ◌^◌}
 use Rattle.std.specs.Prelude.{nat_le, nat_lt, if◌then◌else◌, replicate}
 use Rattle.std.proofs.lemmas.Bool.Decides.{nat_tests}
 use Rattle.std.proofs.lemmas.List.Elements.{All-append}
@@ -9,23 +9,26 @@ use Rattle.std.specs.Vec.{with_items}
 use Rattle.std.proofs.lemmas.Option.{slice_get-map, get_or_from_slice_get}
 use Rattle.std.specs.Option.{option_map}
 use Rattle.running.specs.Running.{numbers_from, upto}
+use Rattle.running.proofs.Lists.{length_numbers}
 use Rattle.fn_core.specs.declared.Start.{Start}
 use Rattle.fn_core.specs.State.{State, history_in}
 use Rattle.fn_core.specs.State as first
-use Rattle.fn_core.specs.Calls.{calls_in, newly_opened}
+use Rattle.fn_core.specs.declared.answer.OpenFault.TheVariants as opens
+use Rattle.fn_core.specs.Calls.{calls_in, newly_opened, open_fault}
 use Rattle.fn_layout.specs.declared.shape.Shape.{Shape}
 use Rattle.fn_table.specs.Seen.{TableView, PassView, IsOf, IsWhole, fresh, fresh_passes, AreOpened}
 use Rattle.fn_table.specs.Claims.{Rests}
 use Rattle.fn_table.proofs.Glances.{glances_run}
 use Rattle.fn_layout.specs.Workers.{IsShapeFor}
 use Rattle.fn_model.specs.declared.TheConstants.{NO_CAP}
+use Rattle.quota_pool.specs.declared.faults.PoolFault.{PoolFault}
 use Rattle.quota_pool.specs.declared.faults.PoolFault.TheVariants.{TooMuch, AboveCap}
 use Rattle.quota_pool.specs.Faults.{too_much_from, above_cap_from, first_of_two, pool_fault}
 use Rattle.quota_pool.specs.declared.closing.Closing.{Closing}
 use Rattle.quota_pool.specs.Rooms.{HasPlace, KeepsRoom}
 use Rattle.quota_pool.specs.Views.{PoolView, DeskView, Belongs}
 use Rattle.quota_pool.specs.Opened.{fresh_desk, with_more, dealt, IsNew, IsOpen, AreOpen, IsOpened}
-use Rattle.quota_pool.proofs.Closes.{all_more, found_at, length_numbers}
+use Rattle.quota_pool.proofs.Closes.{all_more, found_at}
 
 -- one more desk has got its pass
 pub more_dealt : (ds : List DeskView) (i : ℕ) (d e : DeskView) (p : PassView) (ps : List PassView) → i < length ds → e ≡ with_more (get_or ds i d) p
@@ -142,25 +145,54 @@ desks_more tables table workers v shown new passes are all count fresh_are given
     let size : (ts : List TableView) → length (map (fresh_desk ts) (upto workers)) ≡ length (upto workers) = λ ts. length-map (upto workers) (fresh_desk ts) in
     with_items_is v new (ap length now ∙ size (tables ++ table ∷ []) ∙ sym (size tables) ∙ ap length (sym are) ∙ sym v.ok.0) ∙ now
 
-cases : (b : Bool) → (b ≡ true) ⊎ (b ≡ false)
-cases true = inl refl
-cases false = inr refl
+-- a test that is asked first is false where no fault is found, and then none is found behind it
+first_none : {F : Type 0} (b : Bool) (fault : F) (others : Option F) → (if b then Some fault else others) ≡ None → (b ≡ false) × (others ≡ None)
+first_none true fault others none = let clash : Some fault ≡ None = none in absurd (cc)
+first_none false fault others none = (refl, none)
 
--- a test that isn't true is false
-not_true : (b : Bool) → (b ≡ true → ⊥) → b ≡ false
-not_true b refuted = elim (cases b) [ inl holds ↦ absurd (refuted holds) | inr fails ↦ fails ]
+-- of two faults that there aren't
+neither : (one other : Option PoolFault) → first_of_two one other ≡ None → (one ≡ None) × (other ≡ None)
+neither None other none = (refl, none)
+neither (Some fault) other none = let clash : Some fault ≡ None = none in absurd (cc)
+
+-- the sum of the first tenant isn't too much, and neither is that of the others
+sum_below : (tenant opening : ℕ) (openings : List ℕ) (plan : List ℕ) (plans : List (List ℕ)) → too_much_from tenant (opening ∷ openings) (plan ∷ plans) ≡ None → (nat_le (2 ^ 63) (opening + sum plan) ≡ false) × (too_much_from (suc tenant) openings plans ≡ None)
+sum_below tenant opening openings plan plans none = first_none (nat_le (2 ^ 63) (opening + sum plan)) (TooMuch tenant opening (opening + sum plan)) (too_much_from (suc tenant) openings plans) none
+
+-- where no sum is too much, that of each tenant isn't
+too_much_at : (tenant : ℕ) (openings : List ℕ) (plans : List (List ℕ)) → too_much_from tenant openings plans ≡ None → (i : ℕ) → i < length openings → i < length plans → nat_le (2 ^ 63) (get_or openings i 0 + sum (get_or plans i [])) ≡ false
+too_much_at tenant [] plans none i within inside = absurd (omega arith)
+too_much_at tenant (opening ∷ openings) [] none i within inside = absurd (omega arith)
+too_much_at tenant (opening ∷ openings) (plan ∷ plans) none zero within inside = (sum_below tenant opening openings plan plans none).0
+too_much_at tenant (opening ∷ openings) (plan ∷ plans) none (suc i) within inside = too_much_at (suc tenant) openings plans (sum_below tenant opening openings plan plans none).1 i (omega arith) (omega arith)
+
+-- and where no opening is above its cap, that of each tenant isn't
+above_cap_at : (tenant : ℕ) (openings caps : List ℕ) → above_cap_from tenant openings caps ≡ None → (i : ℕ) → i < length openings → i < length caps → nat_lt (get_or caps i 0) (get_or openings i 0) ≡ false
+above_cap_at tenant [] caps none i within inside = absurd (omega arith)
+above_cap_at tenant (opening ∷ openings) [] none i within inside = absurd (omega arith)
+above_cap_at tenant (opening ∷ openings) (cap ∷ caps) none zero within inside = (first_none (nat_lt cap opening) (AboveCap tenant opening cap) (above_cap_from (suc tenant) openings caps) none).0
+above_cap_at tenant (opening ∷ openings) (cap ∷ caps) none (suc i) within inside =
+    above_cap_at (suc tenant) openings caps (first_none (nat_lt cap opening) (AboveCap tenant opening cap) (above_cap_from (suc tenant) openings caps) none).1 i (omega arith) (omega arith)
+
+-- so a tenant's numbers are no fault of its funnel where they are none of the pool
+pub none_at : (openings caps : List ℕ) (plans : List (List ℕ)) → pool_fault openings caps plans ≡ None → (i : ℕ) → i < length openings → i < length caps → i < length plans → open_fault (get_or openings i 0) (get_or caps i 0) (get_or plans i []) ≡ None
+none_at openings caps plans none i within inside there =
+    let both = neither (too_much_from 0 openings plans) (above_cap_from 0 openings caps) none in
+    let opening : ℕ = get_or openings i 0 in
+    let cap : ℕ = get_or caps i 0 in
+    let total : ℕ = opening + sum (get_or plans i []) in
+    ap (λ b. if b then Some (opens.TooMuch opening total) else (if nat_lt cap opening then Some (opens.AboveCap opening cap) else None)) (too_much_at 0 openings plans both.0 i within there)
+    ∙ ap (λ b. if b then Some (opens.AboveCap opening cap) else None) (above_cap_at 0 openings caps both.1 i within inside)
 
 -- no opening that keeps its sum below 2^63 is above the highest cap
 pub none_above : (tenant : ℕ) (openings : List ℕ) (plans : List (List ℕ)) → length plans ≡ length openings → too_much_from tenant openings plans ≡ None → above_cap_from tenant openings (replicate (length openings) NO_CAP) ≡ None
 none_above tenant [] plans one_each none = refl
 none_above tenant (opening ∷ openings) [] one_each none = absurd (omega arith)
 none_above tenant (opening ∷ openings) (plan ∷ plans) one_each none =
-    let total : ℕ = opening + sum plan in
-    let Rest : Bool → Type 0 = λ b. (if b then Some (TooMuch tenant opening total) else too_much_from (suc tenant) openings plans) ≡ None in
-    let below : nat_le (2 ^ 63) total ≡ false = not_true (nat_le (2 ^ 63) total) (λ holds. let clash : Some (TooMuch tenant opening total) ≡ None = subst Rest holds none in cc) in
-    let rest : too_much_from (suc tenant) openings plans ≡ None = subst Rest below none in
+    let first = sum_below tenant opening openings plan plans none in
+    let below : nat_le (2 ^ 63) (opening + sum plan) ≡ false = first.0 in
     let fits : nat_lt NO_CAP opening ≡ false = grind (arith, nat_tests, below) in
-    ap (λ b. if b then Some (AboveCap tenant opening NO_CAP) else above_cap_from (suc tenant) openings (replicate (length openings) NO_CAP)) fits ∙ none_above (suc tenant) openings plans (omega arith) rest
+    ap (λ b. if b then Some (AboveCap tenant opening NO_CAP) else above_cap_from (suc tenant) openings (replicate (length openings) NO_CAP)) fits ∙ none_above (suc tenant) openings plans (omega arith) first.1
 
 -- one more element at the end
 pub all_end : {A : Type 0} (P : A → Type 0) (xs : List A) (x : A) → All P xs → P x → All P (xs ++ x ∷ [])

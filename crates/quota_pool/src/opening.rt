@@ -1,16 +1,18 @@
 //! Tenants open, and desks get their passes.
-ghost use Rattle.std.specs.Prelude.{◌≡◌, ◌≤◌, [], ℕ, suc, ◌≢◌, ◌<◌, Some, IfOk, OnOk, All, length, map, slice_index_or};
+ghost use Rattle.std.specs.Prelude.{◌≡◌, ◌≤◌, [], ℕ, suc, ◌≢◌, ◌<◌, Some, None, IfOk, OnOk, All, length, map, slice_index_or};
 ghost use Rattle.quota_pool.specs.Rooms.{KeepsRoom};
 ghost use Rattle.running.specs.Running.{upto};
 ghost use Rattle.fn_model.specs.declared.TheConstants.{NO_CAP};
+ghost use Rattle.fn_core.specs.Calls.{open_fault};
 ghost use Rattle.fn_table.specs.Seen.{fresh_passes};
+ghost use Rattle.quota_pool.specs.Faults.{pool_fault};
 ghost use Rattle.quota_pool.specs.Opened.{fresh_desk, IsOpen, AreOpen, dealt, with_more};
 
 use crate::closing::Closing;
 use crate::desks::Desk;
 use crate::plans::Plan;
 use crate::seats::Seats;
-use fn_funnel::{Funnel, Pass, shape_for};
+use fn_funnel::{Funnel, OpenFault, Pass, shape_for};
 use std::alloc::{AllocError, Global};
 
 // Desks without a pass, one for each worker, with room for so many.
@@ -56,13 +58,15 @@ fn open_tenant(
     requires workers { (1 ≤ workers) × (workers ≤ 64) }
     requires one_each { length plan.now ≡ workers }
     requires cap { cap ≤ NO_CAP }
+    requires sound { open_fault opening cap plan.now ≡ None }
     ensures count { IfOk result (λ r. r.0.start.shape.passes ≡ workers) }
     ensures open { IfOk result (λ r. IsOpen workers opening cap plan.now r.0) }
     ensures passes { IfOk result (λ r. r.1.items ≡ fresh_passes r.0) }
 {
     match Funnel::open_capped(alloc, shape_for(workers), opening, cap, &plan.items) {
         Ok(opened) => Ok(opened),
-        Err(_) => Err(AllocError),
+        Err(OpenFault::NoMemory) => Err(AllocError),
+        Err(_) => unreachable!(),
     }
 }
 
@@ -79,6 +83,7 @@ pub fn open_all(
     requires caps { All (λ cap. cap ≤ NO_CAP) caps.now }
     requires one_each { length plans.now ≡ length openings.now }
     requires plans { All (λ plan. length plan ≡ workers) plans.now }
+    requires sound { pool_fault openings.now caps.now plans.now ≡ None }
     ensures count { IfOk result (λ r. All (λ funnel. funnel.start.shape.passes ≡ workers) r.0.items) }
     ensures open { IfOk result (λ r. AreOpen workers openings.now caps.now plans.now r.0.items) }
     ensures desks { IfOk result (λ r. r.1.items ≡ map (fresh_desk r.0.items) (upto workers)) }

@@ -99,7 +99,7 @@ impl QuotaPool {
         &self.funnels[at]
     }
 
-    /// Ends the pool, given all its desks, in order of worker. The books stand in order of tenant.
+    /// Ends the pool, given all its desks, in order of worker. The books stand in order of tenant, each with the calls that the desks made there, and no other.
     pub fn close(self, desks: Vec<Desk>) -> Vec<Book>
         requires together { All (Belongs self) desks.items }
         requires all { map (λ desk. desk.worker) desks.items ≡ upto self.workers }

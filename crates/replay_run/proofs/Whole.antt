@@ -23,6 +23,7 @@ use Rattle.fn_funnel.specs.declared.waiting.Way.{Way}
 use Rattle.fn_funnel.proofs.Calls.{entered_stays}
 use Rattle.fn_core.proofs.Entered.{entries_stay}
 use Rattle.quota_pool.specs.Calls.{EntersBy}
+use Rattle.running.proofs.Lists.{length_numbers}
 use Rattle.running.proofs.Logs.{prefix_on}
 use Rattle.quota_pool.specs.Views.{PoolView, DeskView, Belongs, left_at, left_in}
 use Rattle.quota_pool.specs.Opened.{fresh_desk, OpensWith, IsNew}
@@ -30,7 +31,6 @@ use Rattle.quota_pool.specs.Claims.{HasCallsOf, TellsBook, TellsBooks}
 use Rattle.quota_pool.specs.Closed.{passes_at, AreClosed}
 use Rattle.quota_pool.specs.declared.moved.Moved.{Moved}
 use Rattle.quota_pool.proofs.Books.{seen_in_book}
-use Rattle.quota_pool.proofs.Closes.{length_numbers}
 use Rattle.trace_text.specs.SoundTrace.{IsSoundRow, amounts}
 use Rattle.trace_text.specs.declared.traces.Row.{Row}
 use Rattle.replay_run.specs.declared.places.Job.{Job}

@@ -1,10 +1,10 @@
 use Rattle.std.proofs.Common.{◌≡◌, ℕ, List, None, length, sym, ap, ◌∙◌, subst, arith}
 use Rattle.std.proofs.lemmas.List.{length-map, with_items_is}
 use Rattle.running.specs.Running.{upto}
+use Rattle.running.proofs.Lists.{length_numbers}
 use Rattle.quota_pool.specs.Views.{DeskView}
 use Rattle.quota_pool.specs.Faults.{pool_fault}
 use Rattle.quota_pool.specs.Opened.{IsOpened, fresh_desk}
-use Rattle.quota_pool.proofs.Closes.{length_numbers}
 use Rattle.replay_run.specs.declared.places.Place.{Place}
 use Rattle.replay_run.specs.Ready.{IsReady}
 use Rattle.replay_run.specs.Work.{desks_in}
