@@ -4,8 +4,9 @@
     reading.py [--words NAME,..] FILE.rt FUNCTION [CLAUSE..]      with clauses, only those
     reading.py crates/tool_run/src/runs.rt run ends
     reading.py --words past,mine,left,Rests crates/fn_funnel/src/waiting.rt add made
+    reading.py --definitions crates/replay_run/specs/Claim.antt:TellsReplay crates/trace_text/specs/TraceGrammar.antt:IsTrace
 
-FUNCTION may be Type::function. Counted are the lines of definitions in the repository's specs/ that are neither blank nor
+FUNCTION may be Type::function. With --definitions it counts what these definitions ask to believe, in place of a contract. Counted are the lines of definitions in the repository's specs/ that are neither blank nor
 comments; the kit's own definitions and declared types aren't counted. A definition that is reached by a name is counted whole.
 Names behind --words are taken as words: counted, and not looked into. Paths are from the top of the repository, wherever it
 is called. Prints a line for each crate, then the sum, as `248 lines, 79 definitions`.
@@ -158,6 +159,13 @@ def contract(path, function, wanted):
     return module, "\n".join(chosen)
 
 
+def named(modules, place):
+    """The definition that `crates/CRATE/specs/FILE.antt:NAME` names."""
+    path, _, name = place.partition(":")
+    where = "Rattle." + path.removeprefix("crates/").removesuffix(".antt").replace("/", ".")
+    return find(modules, where, name) or sys.exit(f"no definition {place}")
+
+
 def main():
     given, words = sys.argv[1:], set()
     if len(given) > 1 and given[0] == "--words":
@@ -165,10 +173,12 @@ def main():
     if len(given) < 2:
         sys.exit(__doc__)
     os.chdir(os.path.join(os.path.dirname(os.path.abspath(__file__)), ".."))
-    path, function, wanted = given[0], given[1], given[2:]
     modules = read_all(os.getcwd())
-    module, text = contract(path, function, wanted)
-    roots = {found for token in set(NAME.findall(text)) if (found := resolve(modules, module, None, token))}
+    if given[0] == "--definitions":
+        roots = {named(modules, place) for place in given[1:]}
+    else:
+        module, text = contract(given[0], given[1], given[2:])
+        roots = {found for token in set(NAME.findall(text)) if (found := resolve(modules, module, None, token))}
     seen, crates = closure(modules, roots, words), {}
     for where, name in seen:
         lines = [line for line in modules[where].definitions[name][1] if line.strip() and not line.strip().startswith("--")]

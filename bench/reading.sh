@@ -5,11 +5,23 @@ cd "$(dirname "${BASH_SOURCE[0]}")/.."
 claim() { # what is called, and then what reading.py is asked
     local name=$1
     shift
-    printf '%-32s %s\n' "$name" "$(python3 bench/reading.py --words past,mine,left,Rests,calls_in,history "$@" | tail -1)"
+    local words=past,mine,left,Rests,calls_in,history
+    if [ "$1" = --words ]; then
+        words=$words,$2
+        shift 2
+    fi
+    printf '%-32s %s\n' "$name" "$(python3 bench/reading.py --words "$words" "$@" | tail -1)"
 }
 claim "run, all commands" crates/tool_run/src/runs.rt run ends
+claim "run, its part on replay" --words play_text,script_of,drill_line,drill,TellsInTurn,TellsScript,TellsRounds,TellsText,TellsRelay,IsFirstFault,tally_line,HasChanges,RefusesOrders,RefusesLines,RefusesScript,RefusesTakes,script_text,play_fault_text,takes_text,shape_text,newlines_in,draws_in,lines_of,content crates/tool_run/src/runs.rt run ends
+claim "replay, bytes to text" --definitions crates/replay_run/specs/Claim.antt:TellsReplay crates/replay_report/specs/Report.antt:report_text crates/trace_text/specs/TraceGrammar.antt:IsTrace crates/trace_text/specs/Records.antt:records_of
 claim "replay" crates/replay_run/src/replaying.rt replay told
+claim "play_script and trial_script" --definitions crates/script_run/specs/Answered.antt:IsAnswered crates/script_run/specs/Answered.antt:AreInTurn
+claim "relay" crates/relay_run/src/relaying.rt relay told
 claim "add" crates/fn_funnel/src/waiting.rt add made
+claim "add_direct" crates/fn_direct/src/lib.rt add_direct made
+claim "Desk::add" crates/quota_pool/src/desks.rt Desk::add made
+claim "try_put" crates/tq_queue/src/putting.rt try_put made
 claim "AddFuture::poll" crates/fn_future/src/single.rt AddFuture::poll made
 claim "finish_all" crates/fn_rounds/src/all_calls.rt finish_all made
 claim "rounds_text" crates/fn_rounds/src/script.rt rounds_text told
