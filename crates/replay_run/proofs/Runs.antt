@@ -3,11 +3,9 @@ use Rattle.std.proofs.Common.{◌≡◌, ◌≢◌, ◌<◌, ◌≤◌, ◌==◌
 use Rattle.std.proofs.lemmas.Bool.{cases_eq}
 use Rattle.std.proofs.lemmas.List.Sums.{sum_by-cons}
 use Rattle.std.proofs.lemmas.List.Elements.{All-head, All-tail}
-use Rattle.std.proofs.lemmas.Option.{slice_get_within}
-use Rattle.fn_model.proofs.Lists.{slice_get-set_same}
-use Rattle.fn_table.specs.Claims.{left}
 use Rattle.quota_pool.specs.Views.{PoolView, DeskView, left_at, left_in}
 use Rattle.quota_pool.specs.Claims.{MadeAt}
+use Rattle.quota_pool.proofs.Calling.{left_after}
 use Rattle.quota_pool.specs.declared.moved.Moved.{Moved}
 use Rattle.trace_text.specs.SoundTrace.{IsSoundRow, amounts}
 use Rattle.trace_text.specs.declared.traces.Row.{Row}
@@ -59,12 +57,10 @@ may_more pool desk row rows answer next may call = record {
       let more = sum_by-cons (asks tenant) row rows in
       elim (cases_eq tenant row.tenant) [
         | inl same ↦
-            let inside : row.tenant < length desk.passes = slice_get_within desk.passes row.tenant call.pass call.at in
-            let now : left_at next row.tenant ≡ left call.after = ap (λ (d : DeskView). left_at d row.tenant) call.desk ∙ ap left_in (slice_get-set_same desk.passes row.tenant call.after inside) in
-            let was : left_at desk row.tenant ≡ left call.pass = ap left_in call.at in
+            let spent = left_after pool desk row.tenant (kind_of row.op) row.amount answer next call in
             let all = may.left row.tenant in
             let own = sum_by-cons (asks row.tenant) row rows in
-            let enough : amounts row.tenant rows ≤ left_at next row.tenant = omega (arith, now, was, all, own, asks_own row, call.made.spent) in
+            let enough : amounts row.tenant rows ≤ left_at next row.tenant = omega (arith, spent, all, own, asks_own row) in
             subst (λ t. amounts t rows ≤ left_at next t) (sym same) enough
         | inr other ↦
             let still : left_at next tenant ≡ left_at desk tenant = ap (λ (d : DeskView). left_at d tenant) call.desk ∙ ap left_in (other_place desk.passes row.tenant tenant call.after other) in
