@@ -1,9 +1,12 @@
 -- From what the parts of a run give to how it ends.
-use Rattle.std.proofs.Common.{◌≡◌, ℕ, List, [], Option, Some, Result, Ok, Err, ap}
+use Rattle.std.proofs.Common.{◌≡◌, ℕ, List, [], Option, Some, Result, Ok, Err, refl, ap}
 use Rattle.fn_core.specs.Calls.{CoreLog, calls_in}
 use Rattle.fn_rounds.specs.Script.{IsBookOf, TellsRounds}
 use Rattle.trace_text.specs.Script.{script_of, content}
+use Rattle.trace_text.specs.TraceLaws.{IsFirstFault, IsRefusedFor}
 use Rattle.trace_text.specs.declared.scripts.Script.{Script}
+use Rattle.trace_text.specs.declared.traces.TraceFault.{TraceFault}
+use Rattle.trace_text.specs.declared.traces.TraceFault.TheVariants as trace
 use Rattle.tool_words.specs.declared.commands.Command.{Command}
 use Rattle.tool_words.specs.declared.commands.Command.TheVariants.{Play, Trial, Replay, Drill, Relay, Rounds, Tally, Throttle}
 use Rattle.tool_run.specs.Accounts.{HasTallied, IsAccounted, RefusesWith, StopsWith}
@@ -77,7 +80,7 @@ unread-prepared command asked input untold is has cant none = unread untold.endi
     unread (Refused (TooManyLines at)) cant = absurd cant
     unread (Refused (ByOrder at)) cant = absurd cant
     unread (Refused (ByThrottle fault)) cant = absurd cant
-    unread ReadFailed cant = ((command, is, has, cant), none)
+    unread ReadFailed cant = ((command, is, has, cant.0, cant.1), none)
     unread WriteFailed cant = absurd cant
     unread WriteStuck cant = absurd cant
     unread NoMemory cant = (tt, none)
@@ -151,3 +154,18 @@ pub tally-telling : (workers grain : ℕ) (bytes text : List ℕ) (book : CoreLo
     → IsTelling (Tally workers grain) bytes result
 tally-telling workers grain bytes text book (Ok told) tallied has = (book, rw has.0 tallied, has.1)
 tally-telling workers grain bytes text book (Err untold) tallied has = rw has.0 has.1
+
+-- a trace that is refused, and not for want of memory, is so for its first fault
+pub first-fault : (workers : ℕ) (records : List (List (List ℕ))) (found : TraceFault) → (found ≡ trace.NoMemory → ⊥) → IsRefusedFor workers records found → IsFirstFault workers records found
+first-fault workers records trace.NoMemory other refused = absurd (other refl)
+first-fault workers records (trace.Header at) other refused = refused
+first-fault workers records (trace.Fields at) other refused = refused
+first-fault workers records (trace.Worker at) other refused = refused
+first-fault workers records (trace.Op at) other refused = refused
+first-fault workers records (trace.Tenant at) other refused = refused
+first-fault workers records (trace.Amount at) other refused = refused
+first-fault workers records (trace.Again at) other refused = refused
+first-fault workers records (trace.Unknown at) other refused = refused
+first-fault workers records (trace.TooMany at) other refused = refused
+first-fault workers records (trace.Total at) other refused = refused
+first-fault workers records (trace.Cap at) other refused = refused
