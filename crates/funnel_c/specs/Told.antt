@@ -3,7 +3,7 @@
 --     reply_or before answer      the number that stands there after a call
 --     kind_of subtracts      the kind of a call that C begins
 --     Loads, Changes, Begins, Polls old .. answer new      what a caller tells of its call
---     CallTold, BeginTold Tells old status .. new      what C is told of it, of the caller in a slot
+--     CallTold, BeginningTold Tells old status .. new      what C is told of it, of the caller in a slot
 use Rattle.std.specs.Prelude.{◌≡◌, ℕ, Bool, true, false, Option, Some, None, Result, Ok, Err, IfOk}
 use Rattle.fn_model.specs.declared.Kind.{Kind}
 use Rattle.fn_model.specs.declared.Kind.TheVariants.{Add, Sub, Read}
@@ -77,7 +77,7 @@ CallTold Tells None status before after None = (status ≡ EMPTY) × (after ≡ 
 CallTold Tells _ status before after _ = ⊥
 
 -- the same of a call's beginning, which writes no number
-abbrev pub BeginTold : (CallerView → Result (Unit {0}) Reason → CallerView → Type 0) → Option CallerView → (status : ℕ) → Option CallerView → Type 0
-BeginTold Tells (Some old) status (Some new) = (answer : Result (Unit {0}) Reason) × (status ≡ begun_status answer) × Tells old answer new
-BeginTold Tells None status None = status ≡ EMPTY
-BeginTold Tells _ status _ = ⊥
+abbrev pub BeginningTold : (CallerView → Result (Unit {0}) Reason → CallerView → Type 0) → Option CallerView → (status : ℕ) → Option CallerView → Type 0
+BeginningTold Tells (Some old) status (Some new) = (answer : Result (Unit {0}) Reason) × (status ≡ begun_status answer) × Tells old answer new
+BeginningTold Tells None status None = status ≡ EMPTY
+BeginningTold Tells _ status _ = ⊥

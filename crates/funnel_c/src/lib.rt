@@ -15,7 +15,7 @@ ghost use Rattle.fn_callers.specs.Told.{IsSpent, HasBegun, StillWaits, HasMade};
 ghost use Rattle.funnel_c.specs.declared.statuses.TheConstants.{OK, NOT_YET, NO_ROW, LOST, EMPTY, UNDERWAY, IDLE, SPENT, NO_MEMORY, REFUSED};
 ghost use Rattle.funnel_c.specs.Slots.{caller_in, callers_in, InBoth, Keeps};
 ghost use Rattle.funnel_c.specs.Opening.{AreEmpty, IsRefused, HasOpened};
-ghost use Rattle.funnel_c.specs.Told.{Loads, Changes, Begins, Polls, CallTold, BeginTold, kind_of};
+ghost use Rattle.funnel_c.specs.Told.{Loads, Changes, Begins, Polls, CallTold, BeginningTold, kind_of};
 
 use fn_callers::{Caller, Reason};
 use opening::open_into;
@@ -114,7 +114,7 @@ fn begin(caller: &mut Caller, subtracts: bool, amount: u64) -> Result<(), Reason
 /// Begins a call through the aggregators: an addition, or a subtraction where this is so.
 #[unsafe(no_mangle)]
 pub extern "C" fn wq_begin(slot: &mut Slot, alloc: Global, subtracts: bool, amount: u64) -> u32
-    ensures told { BeginTold (Begins (kind_of subtracts) amount) (caller_in slot.old) result (caller_in slot.new) }
+    ensures told { BeginningTold (Begins (kind_of subtracts) amount) (caller_in slot.old) result (caller_in slot.new) }
     ensures empty { (result ≡ EMPTY) ↔ (caller_in slot.old ≡ None) }
     ensures underway { (result ≡ UNDERWAY) ↔ IsSomeAnd (caller_in slot.old) HasCall }
     ensures spent { (result ≡ SPENT) ↔ IsSomeAnd (caller_in slot.old) (λ c. IsFree c × IsSpent c amount) }
