@@ -1,14 +1,15 @@
 #!/usr/bin/env python3
 """How much a reader must believe to accept a public contract: the definitions that it cites, and all that these cite.
 
-    reading.py [--words NAME,..] FILE.rt FUNCTION [CLAUSE..]      with clauses, only those
+    reading.py [--words NAME,..] [--without CASE,..] FILE.rt FUNCTION [CLAUSE..]      with clauses, only those
     reading.py crates/tool_run/src/runs.rt run ends
     reading.py --words past,mine,left,Rests crates/fn_funnel/src/waiting.rt add made
     reading.py --definitions crates/replay_run/specs/Claim.antt:TellsReplay crates/trace_text/specs/TraceGrammar.antt:IsTrace
 
 FUNCTION may be Type::function. With --definitions it counts what these definitions ask to believe, in place of a contract. Counted are the lines of definitions in the repository's specs/ that are neither blank nor
 comments; the kit's own definitions and declared types aren't counted. A definition that is reached by a name is counted whole.
-Names behind --words are taken as words: counted, and not looked into. Paths are from the top of the repository, wherever it
+Names behind --words are taken as words: counted, and not looked into. Equations of a definition that are of a case named behind
+--without are left out. Paths are from the top of the repository, wherever it
 is called. Prints a line for each crate, then the sum, as `248 lines, 79 definitions`.
 """
 import os
@@ -105,7 +106,24 @@ def resolve(modules, module, where, token):
     return None
 
 
-def closure(modules, roots, words):
+def kept(lines, cases):
+    """The lines of a definition without the equations of these cases, and without comments."""
+    left, dropped = [], False
+    for line in lines:
+        text = line.strip()
+        if not text or text.startswith("--"):
+            continue
+        indent = len(line) - len(line.lstrip())
+        if not dropped or indent <= depth:
+            head = text.split(" = ")[0]
+            dropped = " = " in text + " " and ":" not in head and bool(cases & set(NAME.findall(head)))
+            depth = indent
+        if not dropped:
+            left.append(line)
+    return left
+
+
+def closure(modules, roots, words, cases):
     seen, left = set(), list(roots)
     while left:
         where, name = left.pop()
@@ -115,7 +133,7 @@ def closure(modules, roots, words):
         if name in words:
             continue
         module = modules[where]
-        body = "\n".join(line for line in module.definitions[name][1] if not line.strip().startswith("--"))
+        body = "\n".join(kept(module.definitions[name][1], cases))
         for token in set(NAME.findall(body)):
             found = resolve(modules, module, where, token)
             if found and found not in seen:
@@ -167,9 +185,10 @@ def named(modules, place):
 
 
 def main():
-    given, words = sys.argv[1:], set()
-    if len(given) > 1 and given[0] == "--words":
-        given, words = given[2:], set(given[1].split(","))
+    given, words, cases = sys.argv[1:], set(), set()
+    while len(given) > 1 and given[0] in ("--words", "--without"):
+        (words if given[0] == "--words" else cases).update(given[1].split(","))
+        given = given[2:]
     if len(given) < 2:
         sys.exit(__doc__)
     os.chdir(os.path.join(os.path.dirname(os.path.abspath(__file__)), ".."))
@@ -179,9 +198,9 @@ def main():
     else:
         module, text = contract(given[0], given[1], given[2:])
         roots = {found for token in set(NAME.findall(text)) if (found := resolve(modules, module, None, token))}
-    seen, crates = closure(modules, roots, words), {}
+    seen, crates = closure(modules, roots, words, cases), {}
     for where, name in seen:
-        lines = [line for line in modules[where].definitions[name][1] if line.strip() and not line.strip().startswith("--")]
+        lines = kept(modules[where].definitions[name][1], cases)
         counted = crates.setdefault(where.split(".")[1], [0, 0])
         counted[0] += len(lines)
         counted[1] += 1

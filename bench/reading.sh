@@ -5,15 +5,12 @@ cd "$(dirname "${BASH_SOURCE[0]}")/.."
 claim() { # what is called, and then what reading.py is asked
     local name=$1
     shift
-    local words=past,mine,left,Rests,calls_in,history
-    if [ "$1" = --words ]; then
-        words=$words,$2
-        shift 2
-    fi
-    printf '%-32s %s\n' "$name" "$(python3 bench/reading.py --words "$words" "$@" | tail -1)"
+    printf '%-32s %s\n' "$name" "$(python3 bench/reading.py --words past,mine,left,Rests,calls_in,history "$@" | tail -1)"
 }
+# the cases of the other commands, and of the reasons with which these are refused
+others=Play,Trial,Drill,Relay,Rounds,Tally,Throttle,command.Play,command.Trial,command.Drill,command.Relay,command.Rounds,command.Tally,command.Throttle,ByScript,ByPlay,ByOrder,ByThrottle,TooManyLines
 claim "run, all commands" crates/tool_run/src/runs.rt run ends
-claim "run, its part on replay" --words play_text,script_of,drill_line,drill,TellsInTurn,TellsScript,TellsRounds,TellsText,TellsRelay,IsFirstFault,tally_line,HasChanges,RefusesOrders,RefusesLines,RefusesScript,RefusesTakes,script_text,play_fault_text,takes_text,shape_text,newlines_in,draws_in,lines_of,content crates/tool_run/src/runs.rt run ends
+claim "run, its part on replay" --without "$others" crates/tool_run/src/runs.rt run ends
 claim "replay, bytes to text" --definitions crates/replay_run/specs/Claim.antt:TellsReplay crates/replay_report/specs/Report.antt:report_text crates/trace_text/specs/TraceGrammar.antt:IsTrace crates/trace_text/specs/Records.antt:records_of
 claim "replay" crates/replay_run/src/replaying.rt replay told
 claim "play_script and trial_script" --definitions crates/script_run/specs/Answered.antt:IsAnswered crates/script_run/specs/Answered.antt:AreInTurn
