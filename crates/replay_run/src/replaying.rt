@@ -8,9 +8,9 @@ ghost use Rattle.replay_run.specs.Replay.{IsReplay, value_in};
 ghost use Rattle.replay_run.specs.Ready.{IsSoundSegment};
 ghost use Rattle.replay_run.specs.Course.{GoesOn};
 
-use gates::Gate;
 use crate::segment::replay_segment;
 use fn_funnel::Book;
+use gates::Gate;
 use quota_pool::Moved;
 use std::alloc::Global;
 use std::sync::Wait;

@@ -7,12 +7,12 @@ ghost use Rattle.quota_pool.specs.Opened.{IsOpened};
 ghost use Rattle.replay_run.specs.Ready.{IsSoundSegment, IsReady, Adds};
 ghost use Rattle.replay_run.specs.Work.{gathered};
 
-use gates::Gate;
 use crate::gathering::gather;
 use crate::places::{Place, deal, leave, seat};
 use crate::planning::plan_rows;
 use crate::working::work_all;
 use fn_funnel::Book;
+use gates::Gate;
 use quota_pool::{Desk, Moved, Plan, PoolFault, QuotaPool};
 use std::alloc::Global;
 use std::sync::Wait;

@@ -7,8 +7,8 @@ ghost use Rattle.trace_text.specs.SoundTrace.{IsAmount};
 ghost use Rattle.replay_run.specs.Segments.{kind_of, goes_through};
 ghost use Rattle.replay_run.specs.Work.{rows_in, MayRun, Ran, MayWork, Worked};
 
-use gates::Gate;
 use crate::places::{Job, Place};
+use gates::Gate;
 use quota_pool::{Desk, Moved, QuotaPool};
 use std::sync::Wait;
 use std::thread;

@@ -17,10 +17,10 @@ use crate::telling::{
 };
 use edge_io::{ReadFault, Sink, Source, WriteFault, read_all, write_all};
 use fn_table::Book;
+use gates::Gate;
 use quota_bucket::BucketBook;
 use quota_pool::Moved;
 use relay_run::QueueBook;
-use gates::Gate;
 use script_run::Caller;
 use std::alloc::{AllocGlobal, Global};
 use std::random::RandomSource;

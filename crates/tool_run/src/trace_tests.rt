@@ -2,8 +2,8 @@
 use crate::runs::run;
 use crate::tests::{Ran, words_of};
 use edge_io::{MemSink, MemSource};
-use quota_pool::Moved;
 use gates::{Gate, OpenGate};
+use quota_pool::Moved;
 use std::alloc::{AllocGlobal, Global};
 use std::random::RandomSource;
 use std::sync::Wait;
