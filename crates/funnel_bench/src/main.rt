@@ -16,7 +16,7 @@ fn main(rt: HostRuntime) -> Result<(), anyhow::Error> {
         None => None,
     };
     for threads in [1, 2, 4] {
-        let mut funnelled = 1u64;
+        let mut funnelled = 0u64;
         for ground in [Ground::Funnel, Ground::Word, Ground::Lock] {
             let times = asked.unwrap_or(FEW);
             let round = Round { threads, times };
@@ -31,14 +31,14 @@ fn main(rt: HostRuntime) -> Result<(), anyhow::Error> {
             let rate = round.rate(spent);
             match ground {
                 Ground::Funnel => {
-                    funnelled = rate.max(1);
+                    funnelled = rate;
                     let past = made.past.saturating_mul(100) / round.additions().max(1);
                     println!(rt;
                         "{name} {threads}: {rate} in a second, {past} in 100 past the funnel"
                     )?;
                 }
                 Ground::Word | Ground::Lock => {
-                    let tenths = rate.saturating_mul(10) / funnelled;
+                    let tenths = rate.saturating_mul(10) / funnelled.max(1);
                     let (whole, tenth) = (tenths / 10, tenths % 10);
                     println!(rt;
                         "{name} {threads}: {rate} in a second, {whole}.{tenth} times the funnel's"
