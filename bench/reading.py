@@ -6,11 +6,11 @@
     reading.py --words past,mine,left,Rests crates/fn_funnel/src/waiting.rt add made
     reading.py --definitions crates/replay_run/specs/Claim.antt:TellsReplay crates/trace_text/specs/TraceGrammar.antt:IsTrace
 
-FUNCTION may be Type::function. With --definitions it counts what these definitions ask to believe, in place of a contract. Counted are the lines of definitions in the repository's specs/ that are neither blank nor
-comments; the kit's own definitions and declared types aren't counted. A definition that is reached by a name is counted whole.
-Names behind --words are taken as words: counted, and not looked into. Equations of a definition that are of a case named behind
---without are left out. Paths are from the top of the repository, wherever it
-is called. Prints a line for each crate, then the sum, as `248 lines, 79 definitions`.
+FUNCTION may be Type::function. With --definitions it counts what these definitions ask to believe, in place of a contract.
+Counted are the lines of definitions in the repository's specs/ that are neither blank nor comments; the kit's own definitions
+and declared types aren't counted. A definition that is reached by a name is counted whole. Names behind --words are taken as
+words: counted, and not looked into. Equations of a definition that are of a case named behind --without are left out. Paths are
+from the top of the repository, wherever it is called. Prints a line for each crate, then the sum, as `248 lines, 79 definitions`.
 """
 import os
 import re
