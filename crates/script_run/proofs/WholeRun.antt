@@ -30,8 +30,8 @@ use Rattle.script_run.specs.declared.lines.LineAnswer.TheVariants.{Waits, NoRow,
 use Rattle.script_run.specs.declared.play.PlayFault.{PlayFault}
 use Rattle.script_run.specs.Play.{after_line, answered, finish, opened_core, order_answer, order_fault, play_lines, play_text, rests, run_text, unfinished}
 use Rattle.script_run.specs.Doing.{IsReady}
-use Rattle.script_run.specs.Answered.{AreInTurn, AreMet, IsMet, StandsBefore, answered_by, calls_made, made_by}
-use Rattle.script_run.specs.Replies.{IsRunText, RepliesAreMet, played}
+use Rattle.script_run.specs.Answered.{TellsInTurn, AreInTurn, AreMet, IsMet, StandsBefore, answered_by, calls_made, made_by}
+use Rattle.script_run.specs.Replies.{IsRunText, RepliesAreMet, history_of, played}
 use Rattle.script_run.proofs.InTurn.{IsNew, IsPlaced, all-before, all-placed, answered-placed, made-all}
 use Rattle.script_run.proofs.Leaving.{resting-is}
 use Rattle.script_run.proofs.OneByOne.{play-more, play-refused, ready-first, ready-left, ready-next}
@@ -234,3 +234,9 @@ run-text script text sound plays = by (play_lines (opened_core script) script.li
     by : (run : Result (List LineAnswer × ℕ) PlayFault) → play_lines (opened_core script) script.lines ≡ run → IsRunText script text
     by (Ok got) is = (got.0, got.1, replies_are_met script got.0 got.1 sound is, same-text text (answers_text got.0 got.1) (sym plays ∙ ap run_text is))
     by (Err fault) is = absurd (cc (sym plays ∙ ap run_text is))
+
+-- so the text of a script that can be played tells of a history of its calls
+pub tells_in_turn : (script : Script) (text : List ℕ) → IsSound script → play_text script ≡ Ok text → TellsInTurn script text
+tells_in_turn script text sound plays =
+    let run = run-text script text sound plays in
+    (run.0, run.1, history_of script, run.2.told, run.2.in_turn, run.3)

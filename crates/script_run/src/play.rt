@@ -13,6 +13,7 @@ ghost use Rattle.trace_text.specs.declared.scripts.ScriptLine.{ScriptLine};
 ghost use Rattle.script_run.specs.Play.{begun_answer, busy, finish, idle, opened_core, order_answer, order_fault, order_moves, play_lines, play_text, rests, told_answer, unfinished};
 ghost use Rattle.script_run.specs.Doing.{Does, Gives, IsReady, Leaves, onto};
 ghost use Rattle.script_run.specs.Replies.{RepliesAreMet};
+ghost use Rattle.script_run.specs.Answered.{TellsInTurn};
 
 use crate::lines::{LineAnswer, push_line, push_value};
 use fn_core::{Core, CoreBegun, CoreStep, NoMemory};
@@ -40,7 +41,8 @@ pub fn replies_are_met()
 /// Plays a script on the pure core, and gives the text of its answers.
 pub fn play_script(alloc: Global, script: &Script) -> Result<Vec<u8>, PlayFault>
     requires { IsSound script.now }
-    ensures { Gives (λ text. text.items) result (play_text script.now) }
+    ensures told { IfOk result (λ text. TellsInTurn script.now text.items) }
+    ensures text { Gives (λ text. text.items) result (play_text script.now) }
 {
     let mut core = open(alloc, script)?;
     let mut text = Vec::new(alloc);

@@ -5,6 +5,7 @@ ghost use Rattle.fn_core.specs.Machine.{no_cap};
 ghost use Rattle.trace_text.specs.Sound.{HasAmount, HasPasses, IsSound};
 ghost use Rattle.trace_text.specs.declared.scripts.ScriptLine.{ScriptLine};
 ghost use Rattle.script_run.specs.Play.{fault_by, least_busy, opened_core};
+ghost use Rattle.script_run.specs.Answered.{TellsScript};
 ghost use Rattle.script_run.specs.Trial.{AreHandedBack, TellsTrial, first_callers, rests_in};
 ghost use Rattle.script_run.specs.Slots.{AllStand, AreFull, HaveLeft, StopsAt, TookLines, idle_in, idle_passes, present};
 
@@ -30,7 +31,8 @@ pub fn trial_script(
     script: &Script,
 ) -> Result<(Vec<u8>, Book), (PlayFault, Vec<Caller>)>
     requires { IsSound script.now }
-    ensures told { IfOk result (λ r. TellsTrial script.now r.0.items r.1) }
+    ensures told { IfOk result (λ r. TellsScript script.now r.0.items) }
+    ensures way { IfOk result (λ r. TellsTrial script.now r.0.items r.1) }
     ensures refused { IfErr result (λ r. AreHandedBack script.now r.0 r.1.items) }
 {
     match open(alloc, script) {

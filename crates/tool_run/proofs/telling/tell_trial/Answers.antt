@@ -5,7 +5,7 @@ use Rattle.tool_run.proofs.Preparing.{book-telling}
 use Rattle.tool_run.proofs.telling.tell_trial.Goals as goal
 
 pub returns-in-Ok : goal.returns-in-Ok
-returns-in-Ok c = book-telling c.args.bytes.now c.in_ok-script.script c.in-Ok.text.items c.in-Ok.book c.tell_book.result c.in_ok-script.ensures.0 c.in-Ok.ensures.told c.tell_book.ensures
+returns-in-Ok c = book-telling c.args.bytes.now c.in_ok-script.script c.in-Ok.text.items c.in-Ok.book c.tell_book.result c.in_ok-script.ensures.0 c.in-Ok.ensures.way c.tell_book.ensures
 
 pub returns : goal.returns
 returns c =
