@@ -25,7 +25,7 @@ use Rattle.fn_core.proofs.Linked.{row_read-link}
 use Rattle.fn_core.proofs.Tells.{last_mine}
 use Rattle.fn_table.specs.Seen.{PassView, May, Stepped, own_of}
 use Rattle.fn_climb.specs.declared.course.Course.{Course}
-use Rattle.fn_climb.specs.Course.{held_at, at_stage, Holds, Moved}
+use Rattle.fn_climb.specs.Course.{held_at, at_stage, Holds, Moved, pending_of}
 use Rattle.fn_climb.specs.Steps.{Went}
 use Rattle.fn_climb.specs.Turns.{GoesOn}
 use Rattle.fn_climb.proofs.Underway.{placed, climbing_at, may_at_stage, stage_now}
@@ -70,8 +70,8 @@ module _ (p : PassView) (c : Course) (h : Holds p c) (free : c.word ≡ None) wh
   held_there g = get_or-set_same c.stages (c.level - 1) g Out (let l = placed p c h in omega (arith, h.course.three, l.1.0, l.1.1, p.seen.start.shape.levels_in_range))
 
   -- a step to another stage at the level
-  on_to : (q : PassView) (g k : Stage) → Holds q (at_g g) → (r : PassView) → Moved q (at_g g) k r → Went q told.Going r × Holds r (at_g k)
-  on_to q g k hold r m = let w = moved q (at_g g) hold refl k r m in (w.0, subst (λ (x : Course). Holds r x) (on_stage c c.level g k) w.1)
+  on_to : (q : PassView) (g k : Stage) → Holds q (at_g g) → (r : PassView) → Moved q (at_g g) k r → Went (pending_of q c) told.Going r × Holds r (at_g k)
+  on_to q g k hold r m = let w = moved q (at_g g) hold refl k r m in (w.0, subst (λ (x : Course). Holds r x) (on_stage c c.level g k) w.1.0)
 
   -- the word that was found in `last` is the one that names its row
   module _ (n1 : ℕ) (q1 : PassView) (t1 : Stepped p (Head c.kind c.level) n1 q1) where
@@ -98,8 +98,8 @@ module _ (p : PassView) (c : Course) (h : Holds p c) (free : c.word ≡ None) wh
       number1 : q1.number ≡ p.number
       number1 = ap (λ (v : PassView). v.number) t1.now
 
-      first : Went p told.Going q1 × Holds q1 (at_g (Headed at hi base last))
-      first = moved p c h free (Headed at hi base last) q1 (headed_lead p c h free at hi base is n1 q1 t1)
+      first : Went (pending_of p c) told.Going q1 × Holds q1 (at_g (Headed at hi base last))
+      first = let m = moved p c h free (Headed at hi base last) q1 (headed_lead p c h free at hi base is n1 q1 t1) in (m.0, m.1.0)
 
       row1 : row ≡ row_number q1.seen.start.shape q1.number c.kind c.level chosen
       row1 = is_row ∙ ap (λ (z : Shape × ℕ). row_number z.0 z.1 c.kind c.level chosen) (λ i. (sym shape1 i, sym number1 i))
@@ -120,7 +120,7 @@ module _ (p : PassView) (c : Course) (h : Holds p c) (free : c.word ≡ None) wh
         to_local : local_row q1.seen.start.shape c.level q1.number row ≡ local
         to_local = ap (λ (z : Shape × ℕ). local_row z.0 c.level z.1 row) (λ i. (shape1 i, number1 i))
 
-        second : Went q1 told.Going q2 × Holds q2 (at_g (FilledLo at hi base last local))
+        second : Went (pending_of q1 c) told.Going q2 × Holds q2 (at_g (FilledLo at hi base last local))
         second =
             on_to q1 (Headed at hi base last) (FilledLo at hi base last local) first.1 q2
             (subst (λ (r : ℕ). Moved q1 (at_g (Headed at hi base last)) (FilledLo at hi base last r) q2) to_local
@@ -145,7 +145,7 @@ module _ (p : PassView) (c : Course) (h : Holds p c) (free : c.word ≡ None) wh
           number3 : q3.number ≡ p.number
           number3 = ap (λ (v : PassView). v.number) t3.now ∙ number2
 
-          third : Went q2 told.Going q3 × Holds q3 (at_g (FilledBase at hi base last local))
+          third : Went (pending_of q2 c) told.Going q3 × Holds q3 (at_g (FilledBase at hi base last local))
           third =
               on_to q2 (FilledLo at hi base last local) (FilledBase at hi base last local) second.1 q3
               (filled_base q2 (at_g (FilledLo at hi base last local)) second.1 refl at hi base last local (held_there (FilledLo at hi base last local)) n3 q3 (subst (λ (x : ℕ). Stepped q2 (Fill x Base) n3 q3) (sym own2) t3))
@@ -169,7 +169,7 @@ module _ (p : PassView) (c : Course) (h : Holds p c) (free : c.word ≡ None) wh
             number4 : q4.number ≡ p.number
             number4 = ap (λ (v : PassView). v.number) t4.now ∙ number3
 
-            fourth : Went q3 told.Going q4 × Holds q4 (at_g (Filled at hi base local))
+            fourth : Went (pending_of q3 c) told.Going q4 × Holds q4 (at_g (Filled at hi base local))
             fourth =
                 on_to q3 (FilledBase at hi base last local) (Filled at hi base local) third.1 q4
                 (filled_prev q3 (at_g (FilledBase at hi base last local)) third.1 refl at hi base last local (held_there (FilledBase at hi base last local)) n4 q4 (subst (λ (x : ℕ). Stepped q3 (Fill x Prev) n4 q4) (sym own3) t4))
@@ -181,7 +181,7 @@ module _ (p : PassView) (c : Course) (h : Holds p c) (free : c.word ≡ None) wh
             may_point = subst (λ (x : ℕ). May q4 (Point c.kind c.level x)) own4 (may_at_stage q4 (at_g (Filled at hi base local)) fourth.1 refl (Filled at hi base local) (held_there (Filled at hi base local)))
 
             module _ (n5 : ℕ) (q5 : PassView) (t5 : Stepped q4 (Point c.kind c.level row) n5 q5) where
-              fifth : Went q4 told.Going q5 × Holds q5 (at_g (Pointed at hi base local))
+              fifth : Went (pending_of q4 c) told.Going q5 × Holds q5 (at_g (Pointed at hi base local))
               fifth =
                   on_to q4 (Filled at hi base local) (Pointed at hi base local) fourth.1 q5
                   (pointed q4 (at_g (Filled at hi base local)) fourth.1 refl at hi base local (held_there (Filled at hi base local)) n5 q5 (subst (λ (x : ℕ). Stepped q4 (Point c.kind c.level x) n5 q5) (sym own4) t5))
@@ -193,12 +193,12 @@ module _ (p : PassView) (c : Course) (h : Holds p c) (free : c.word ≡ None) wh
               ends_there = sym (ap end_by (stage_now q5 (at_g (Pointed at hi base local)) fifth.1 refl (Pointed at hi base local) (held_there (Pointed at hi base local))))
 
               module _ (n6 : ℕ) (q6 : PassView) (t6 : Stepped q5 (Publish c.kind c.level) n6 q6) where
-                sixth : Went q5 told.Going q6 × Holds q6 (at_g (Got base 0))
+                sixth : Went (pending_of q5 c) told.Going q6 × Holds q6 (at_g (Got base 0))
                 sixth =
                     on_to q5 (Pointed at hi base local) (Got base 0) fifth.1 q6
                     (published q5 (at_g (Pointed at hi base local)) fifth.1 refl at hi base local (held_there (Pointed at hi base local)) n6 q6 t6)
 
-                pub batch_goes : (steps : List Move) × GoesOn p steps q6
+                pub batch_goes : (steps : List Move) × GoesOn (pending_of p c) steps q6
                 batch_goes = (
                   first.0.step ∷ second.0.step ∷ third.0.step ∷ fourth.0.step ∷ fifth.0.step ∷ sixth.0.step ∷ [],
                   (q1, first.0, refl, (q2, second.0, refl, (q3, third.0, refl, (q4, fourth.0, refl, (q5, fifth.0, refl, (q6, sixth.0, refl, refl)))))),

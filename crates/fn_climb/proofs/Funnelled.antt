@@ -13,6 +13,7 @@ use Rattle.fn_core.proofs.Entered.{funnelled_calls_are_batched}
 use Rattle.fn_table.specs.Seen.{PassView, own_of}
 use Rattle.fn_climb.specs.Begin.{HasBegun}
 use Rattle.fn_table.specs.Later.{IsLater}
+use Rattle.fn_climb.specs.Next.{PendingView}
 use Rattle.fn_climb.specs.Steps.{HasSameCall}
 use Rattle.fn_climb.specs.Turns.{Polled}
 use Rattle.fn_table.proofs.Later.{later_on}
@@ -20,7 +21,7 @@ use Rattle.fn_table.specs.Called.{call_of, HasCalled}
 use Rattle.fn_table.proofs.Claims.{none_underway}
 
 -- the pass begins a call, polls it in vain up to here, and then has its reply
-module _ (p b u q : PassView) (kind : Kind) (amount reply : ℕ) (legal : IsLegal p.seen) (idle : IsIdle p.seen p.number) (later : IsLater p u) (begun : HasBegun p kind amount b) (polls : HasSameCall b u) (polled : Polled u (Ready reply) q) where
+module _ (p b : PassView) (u : PendingView) (q : PassView) (kind : Kind) (amount reply : ℕ) (legal : IsLegal p.seen) (idle : IsIdle p.seen p.number) (later : IsLater p u.pass) (begun : HasBegun p kind amount b) (polls : HasSameCall b u.pass) (polled : Polled u (Ready reply) q) where
   number : q.number ≡ p.number
   number = polled.later.number ∙ later.number
 
@@ -55,7 +56,7 @@ module _ (p b u q : PassView) (kind : Kind) (amount reply : ℕ) (legal : IsLega
 
   beyond : (i : ℕ) → place p.number (call_of p kind amount).number (calls_in q.seen) ≡ Some i → length (calls_in p.seen) ≤ i
   beyond i at =
-      let behind : Stands (q.seen.start, q.number) = polled.replied.beyond p.seen.log (let whole = later_on p u q later polled.later in whole.begins) in
+      let behind : Stands (q.seen.start, q.number) = polled.replied.beyond p.seen.log (let whole = later_on p u.pass q later polled.later in whole.begins) in
       let here : Stands (p.seen.start, p.number) = subst Stands (λ j. (start j, number j)) behind in
       let numbered : (own_of q).caller.last.number ≡ (own_of p).caller.made = ap (λ (call : Call). call.number) last in
       here (omega (arith, numbered)) i (ap (λ (n : ℕ). place p.number n (calls_in q.seen)) numbered ∙ at)

@@ -25,10 +25,10 @@ use Rattle.fn_core.proofs.Places.{same_kind-refl}
 use Rattle.fn_table.specs.Seen.{PassView, Stepped, own_of, with_log}
 use Rattle.fn_climb.specs.declared.course.Course.{Course}
 use Rattle.fn_climb.specs.Next.{next_step, IsNext}
-use Rattle.fn_climb.specs.Course.{held_at, goes_on, IsCourseOf, Holds, Moved, at_stage}
+use Rattle.fn_climb.specs.Course.{held_at, goes_on, IsCourseOf, Holds, Moved, at_stage, pending_of}
 use Rattle.fn_climb.specs.Steps.{HasSameCall, Went}
 use Rattle.fn_climb.proofs.Underway.{placed, climbing_at, next_at_stage, stage_now}
-use Rattle.fn_climb.proofs.Onward.{own_before, tells, went, holds_then}
+use Rattle.fn_climb.proofs.Onward.{own_before, tells, went, holds_then, plain}
 
 -- a function changed for a kind and level, there and at another level
 pub level_same : {A : Type 0} (f : Kind → ℕ → A) (k : Kind) (l : ℕ) (g : A) → put_level f k l g k l ≡ g
@@ -81,28 +81,34 @@ module _ (p : PassView) (c : Course) (h : Holds p c) where
   pub same_call : (q : PassView) (position : Position) → (own_of q).caller ≡ record (own_of p).caller { position = position } → HasSameCall p q
   same_call q position is = record { made = ap (λ (x : Caller). x.made) is; last = ap (λ (x : Caller). x.last) is; left = ap (λ (x : Caller). x.left) is }
 
-  module _ (step : Move) (n : ℕ) (q : PassView) (t : Stepped p step n q) (nx : IsNext p step) where
+  module _ (step : Move) (n : ℕ) (q : PassView) (t : Stepped p step n q) (nx : IsNext (pending_of p c) step) where
     abbrev before : State
     before = state_in (with_log p t.before)
 
     -- a step that leaves the call going, and leads to a stage
     pub goes : told.Going ≡ step_answer start before p.number → (level : ℕ) (g : Stage) → IsLevel start.shape level → (own_of q).caller ≡ record (own_of p).caller { position = Climbing c.kind level } → (own_of q).stages ≡ put_level (own_of p).stages c.kind level g
-        → Went p told.Going q × Holds q (at_stage c level g)
+        → Went (pending_of p c) told.Going q × (Holds q (at_stage c level g) × (c.rows ≡ c.rows))
     goes so level g inside caller stages =
         let w = went p c h step n q t nx told.Going so (same_call q (Climbing c.kind level) caller) in (
           w,
-          holds_then p c h step n q t nx (at_stage c level g) refl refl
-              (course_put start (own_of p) (own_of q) c level g inside h.course.three h.course.stages (ap (λ (x : Caller). x.position) caller) stages) w.follows.0,
+          (
+            holds_then p c h step n q t nx (at_stage c level g) refl refl
+                (course_put start (own_of p) (own_of q) c level g inside h.course.three h.course.stages (ap (λ (x : Caller). x.position) caller) stages) w.follows.0,
+            refl,
+          ),
         )
 
     -- .. and one that doesn't
     pub stays : (why : _) → told.NotYet why ≡ step_answer start before p.number → (level : ℕ) (g : Stage) → IsLevel start.shape level → (own_of q).caller ≡ record (own_of p).caller { position = Climbing c.kind level } → (own_of q).stages ≡ put_level (own_of p).stages c.kind level g
-        → Went p (told.NotYet why) q × Holds q (at_stage c level g)
+        → Went (pending_of p c) (told.NotYet why) q × (Holds q (at_stage c level g) × (c.rows ≡ c.rows))
     stays why so level g inside caller stages =
         let w = went p c h step n q t nx (told.NotYet why) so (same_call q (Climbing c.kind level) caller) in (
           w,
-          holds_then p c h step n q t nx (at_stage c level g) refl refl
-              (course_put start (own_of p) (own_of q) c level g inside h.course.three h.course.stages (ap (λ (x : Caller). x.position) caller) stages) w.follows,
+          (
+            holds_then p c h step n q t nx (at_stage c level g) refl refl
+                (course_put start (own_of p) (own_of q) c level g inside h.course.three h.course.stages (ap (λ (x : Caller). x.position) caller) stages) w.follows,
+            refl,
+          ),
         )
 
   module _ (free : c.word ≡ None) where
@@ -114,7 +120,7 @@ module _ (p : PassView) (c : Course) (h : Holds p c) where
     at_rest = ap (λ (x : Position). let r : Caller = record here { position = x } in r) (climbing_at p c h free)
 
     -- a step to another stage at the call's level
-    pub moved : (g : Stage) (q : PassView) → Moved p c g q → Went p told.Going q × Holds q (at_stage c c.level g)
+    pub moved : (g : Stage) (q : PassView) → Moved p c g q → Went (pending_of p c) told.Going q × (Holds q (at_stage c c.level g) × (c.rows ≡ c.rows))
     moved g q m =
         goes m.step m.number q m.stepped m.next (sym (tells p c h m.step m.number q m.stepped m.next ∙ m.going _ _)) c.level g (placed p c h).1 (m.caller ∙ at_rest) m.stages
 
@@ -124,7 +130,7 @@ module _ (p : PassView) (c : Course) (h : Holds p c) where
 
       sees : step_answer start (state_in (with_log p t.before)) p.number ≡ (if nat_lt n at then told.NotYet (Behind n at) else told.Going)
       sees =
-          tells p c h (Look c.kind c.level) n q t (inl next)
+          tells p c h (Look c.kind c.level) n q t (plain p c (Look c.kind c.level) next)
           ∙ (λ i. look_told ((ap (λ (o : Own). o.stages c.kind c.level) (own_before p c h (Look c.kind c.level) n q t) ∙ stage_now p c h free (Waiting at) is) i) (answers.Word (sym t.answer i)))
 
       after : own_of q ≡ in_stage (own_of p) c.kind c.level (looked at n)
@@ -136,13 +142,13 @@ module _ (p : PassView) (c : Course) (h : Holds p c) where
       stages : (own_of q).stages ≡ put_level (own_of p).stages c.kind c.level (looked at n)
       stages = ap (λ (o : Own). o.stages) after
 
-      pub looked_behind : n < at → Went p (told.NotYet (Behind n at)) q × Holds q (at_stage c c.level (looked at n))
+      pub looked_behind : n < at → Went (pending_of p c) (told.NotYet (Behind n at)) q × (Holds q (at_stage c c.level (looked at n)) × (c.rows ≡ c.rows))
       looked_behind less =
-          stays (Look c.kind c.level) n q t (inl next) (Behind n at) (sym (sees ∙ ap (λ (b : Bool). if b then told.NotYet (Behind n at) else told.Going) (lt-ltb n at less))) c.level (looked at n) (placed p c h).1 caller stages
+          stays (Look c.kind c.level) n q t (plain p c (Look c.kind c.level) next) (Behind n at) (sym (sees ∙ ap (λ (b : Bool). if b then told.NotYet (Behind n at) else told.Going) (lt-ltb n at less))) c.level (looked at n) (placed p c h).1 caller stages
 
-      pub looked_on : at ≤ n → Went p told.Going q × Holds q (at_stage c c.level (looked at n))
+      pub looked_on : at ≤ n → Went (pending_of p c) told.Going q × (Holds q (at_stage c c.level (looked at n)) × (c.rows ≡ c.rows))
       looked_on more =
-          goes (Look c.kind c.level) n q t (inl next) (sym (sees ∙ ap (λ (b : Bool). if b then told.NotYet (Behind n at) else told.Going) (le-ltb n at more))) c.level (looked at n) (placed p c h).1 caller stages
+          goes (Look c.kind c.level) n q t (plain p c (Look c.kind c.level) next) (sym (sees ∙ ap (λ (b : Bool). if b then told.NotYet (Behind n at) else told.Going) (le-ltb n at more))) c.level (looked at n) (placed p c h).1 caller stages
 
 -- what a look shows
 pub waits_still : (at n : ℕ) → n < at → looked at n ≡ Waiting at

@@ -104,7 +104,7 @@ module _ (p : PassView) (kind : Kind) (level : ℕ) where
         let done = along_stop out_row opens i (range_with_len i (shape.rows - i)) (range_with_len (i + 1) (shape.rows - (i + 1))) (range_with_len 0 shape.rows) so.ts so.along rest_is row.words open_row in record {
           words = done.0;
           takes = subst (λ (us : List Taken). Takes p us r) (sym done.2) (takes_on p q r so.ts (out_row row.words i) so.takes row.takes);
-          told = (any_found (λ n. opens (done.0 n) n) (range_with_len 0 shape.rows) ∙ ap is_some done.3, less, row.free refl);
+          told = (done.3, less, row.free refl);
           still = still_on p q r so.still tried.still;
           apart = now_apart None tried;
         }

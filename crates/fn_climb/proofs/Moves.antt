@@ -36,10 +36,10 @@ use Rattle.fn_core.proofs.Places.{kind_cases}
 use Rattle.fn_core.proofs.Tells.{peek_word, last_mine, over_mine}
 use Rattle.fn_table.specs.Seen.{PassView, May, Stepped, own_of}
 use Rattle.fn_climb.specs.declared.course.Course.{Course}
-use Rattle.fn_climb.specs.Next.{next_step, IsNext}
-use Rattle.fn_climb.specs.Course.{held_at, weight_below, goes_on, has_row, walks, peek_of, chosen_at, IsLink, Holds, Moved}
+use Rattle.fn_climb.specs.Next.{next_step, in_kept_row, IsNext}
+use Rattle.fn_climb.specs.Course.{held_at, weight_below, goes_on, has_row, walks, peek_of, chosen_at, IsLink, Holds, Moved, pending_of}
 use Rattle.fn_climb.proofs.Underway.{placed, slot, its_aggregator, climbs, held_is, climbing_at, next_at_stage, may_at_stage, stage_now}
-use Rattle.fn_climb.proofs.Onward.{legal_before, own_before}
+use Rattle.fn_climb.proofs.Onward.{legal_before, own_before, plain}
 
 module _ (p : PassView) (c : Course) (h : Holds p c) where
   -- its level is one of few
@@ -68,7 +68,7 @@ module _ (p : PassView) (c : Course) (h : Holds p c) where
     index = aggregator start.shape p.number c.level
 
     -- a step that leads to a stage
-    module _ (step : Move) (n : ℕ) (q : PassView) (t : Stepped p step n q) (next : IsNext p step) (going : (stood : Stage) (answer : Answer) → told_by start.cap step stood answer ≡ Going) where
+    module _ (step : Move) (n : ℕ) (q : PassView) (t : Stepped p step n q) (next : IsNext (pending_of p c) step) (going : (stood : Stage) (answer : Answer) → told_by start.cap step stood answer ≡ Going) where
       moved_to : (o : Own) (g : Stage) → own_after start p.number step n (own_of p) ≡ o → o.caller ≡ (own_of p).caller → o.stages ≡ put_level (own_of p).stages c.kind c.level g → Moved p c g q
       moved_to o g after caller stages = record {
         step = step;
@@ -85,26 +85,26 @@ module _ (p : PassView) (c : Course) (h : Holds p c) where
 
     pub announced : (seen : ℕ) → held_at c c.level ≡ Saw seen → (n : ℕ) (q : PassView) → Stepped p (Announce c.kind c.level) n q → Moved p c (Told seen) q
     announced seen is n q t =
-        staged (Announce c.kind c.level) n q t (inl (next_at_stage p c h free (Saw seen) is)) (λ stood answer. refl) (Told seen)
+        staged (Announce c.kind c.level) n q t (plain p c (Announce c.kind c.level) (next_at_stage p c h free (Saw seen) is)) (λ stood answer. refl) (Told seen)
         (ap (λ (g : Stage). in_stage (own_of p) c.kind c.level (told_stage g)) (stage_now p c h free (Saw seen) is))
 
     pub closed : (at : ℕ) → held_at c c.level ≡ Lead at → (n : ℕ) (q : PassView) → Stepped p (Close c.kind c.level) n q → Moved p c (Shut at n) q
     closed at is n q t =
-        staged (Close c.kind c.level) n q t (inl (next_at_stage p c h free (Lead at) is)) (λ stood answer. refl) (Shut at n)
+        staged (Close c.kind c.level) n q t (plain p c (Close c.kind c.level) (next_at_stage p c h free (Lead at) is)) (λ stood answer. refl) (Shut at n)
         (ap (λ (g : Stage). in_stage (own_of p) c.kind c.level (closed_stage n g)) (stage_now p c h free (Lead at) is))
 
     pub headed_late : (at : ℕ) → held_at c c.level ≡ Late at → (n : ℕ) (q : PassView) → Stepped p (Head c.kind c.level) n q → Moved p c (At at (row_read start.shape n - 1)) q
     headed_late at is n q t =
-        staged (Head c.kind c.level) n q t (inl (next_at_stage p c h free (Late at) is)) (λ stood answer. refl) (At at (row_read start.shape n - 1))
+        staged (Head c.kind c.level) n q t (plain p c (Head c.kind c.level) (next_at_stage p c h free (Late at) is)) (λ stood answer. refl) (At at (row_read start.shape n - 1))
         (ap (λ (g : Stage). in_stage (own_of p) c.kind c.level (headed_stage (row_read start.shape n) g)) (stage_now p c h free (Late at) is))
 
     pub headed_lead : (at hi base : ℕ) → held_at c c.level ≡ Based at hi base → (n : ℕ) (q : PassView) → Stepped p (Head c.kind c.level) n q → Moved p c (Headed at hi base (row_read start.shape n)) q
     headed_lead at hi base is n q t =
-        staged (Head c.kind c.level) n q t (inl (next_at_stage p c h free (Based at hi base) is)) (λ stood answer. refl) (Headed at hi base (row_read start.shape n))
+        staged (Head c.kind c.level) n q t (plain p c (Head c.kind c.level) (next_at_stage p c h free (Based at hi base) is)) (λ stood answer. refl) (Headed at hi base (row_read start.shape n))
         (ap (λ (g : Stage). in_stage (own_of p) c.kind c.level (headed_stage (row_read start.shape n) g)) (stage_now p c h free (Based at hi base) is))
 
     -- a Fill of a row, by where the call stands
-    filled_with : (row : ℕ) (field : Field) (g : Stage) → held_at c c.level ≡ g → (n : ℕ) (q : PassView) → Stepped p (Fill row field) n q → IsNext p (Fill row field) → Moved p c (filled (local_row start.shape c.level p.number row) g) q
+    filled_with : (row : ℕ) (field : Field) (g : Stage) → held_at c c.level ≡ g → (n : ℕ) (q : PassView) → Stepped p (Fill row field) n q → IsNext (pending_of p c) (Fill row field) → Moved p c (filled (local_row start.shape c.level p.number row) g) q
     filled_with row field g is n q t next =
         staged (Fill row field) n q t next (λ stood answer. refl) (filled (local_row start.shape c.level p.number row) g)
         (ap (filled_own start.shape p.number row (own_of p)) (climbing_at p c h free)
@@ -140,15 +140,19 @@ module _ (p : PassView) (c : Course) (h : Holds p c) where
             let moved : IsFreeFor start s p.number c.kind c.level (local_row start.shape c.level p.number row) = subst (IsFreeFor start s p.number c.kind c.level) (sym local_is) r in
             (h.inside, (c.kind, c.level, chosen, (climbing_at p c h free, (at, hi, base, last, stands, moved.0, moved.1, ap (word_of Lo) stands)), (chosen_in, is_row)))
 
+        kept : (first : ℕ) → next_step p ≡ Fill first Lo → IsNext (pending_of p c) (Fill row Lo)
+        kept first next =
+            (λ i. in_kept_row (pending_of p c) (next i) (climbing_at p c h free i)) ∙ ap (λ (r : ℕ). Fill r Lo) (sym is_row)
+
         pub filled_first : (n : ℕ) (q : PassView) → Stepped p (Fill row Lo) n q → Moved p c (FilledLo at hi base last (local_row start.shape c.level p.number row)) q
         filled_first n q t =
-            filled_with row Lo (Headed at hi base last) is n q t (inr (row_number start.shape p.number c.kind c.level (first_free start s c.kind c.level p.number), row, next_at_stage p c h free (Headed at hi base last) is, refl, may_fill_first))
+            filled_with row Lo (Headed at hi base last) is n q t (kept (row_number start.shape p.number c.kind c.level (first_free start s c.kind c.level p.number)) (next_at_stage p c h free (Headed at hi base last) is))
 
     pub filled_base : (at hi base last r : ℕ) → held_at c c.level ≡ FilledLo at hi base last r → (n : ℕ) (q : PassView) → Stepped p (Fill (own_row start.shape p.number c.kind c.level r) Base) n q → Moved p c (FilledBase at hi base last r) q
-    filled_base at hi base last r is n q t = filled_with (own_row start.shape p.number c.kind c.level r) Base (FilledLo at hi base last r) is n q t (inl (next_at_stage p c h free (FilledLo at hi base last r) is))
+    filled_base at hi base last r is n q t = filled_with (own_row start.shape p.number c.kind c.level r) Base (FilledLo at hi base last r) is n q t (plain p c (Fill (own_row start.shape p.number c.kind c.level r) Base) (next_at_stage p c h free (FilledLo at hi base last r) is))
 
     pub filled_prev : (at hi base last r : ℕ) → held_at c c.level ≡ FilledBase at hi base last r → (n : ℕ) (q : PassView) → Stepped p (Fill (own_row start.shape p.number c.kind c.level r) Prev) n q → Moved p c (Filled at hi base r) q
-    filled_prev at hi base last r is n q t = filled_with (own_row start.shape p.number c.kind c.level r) Prev (FilledBase at hi base last r) is n q t (inl (next_at_stage p c h free (FilledBase at hi base last r) is))
+    filled_prev at hi base last r is n q t = filled_with (own_row start.shape p.number c.kind c.level r) Prev (FilledBase at hi base last r) is n q t (plain p c (Fill (own_row start.shape p.number c.kind c.level r) Prev) (next_at_stage p c h free (FilledBase at hi base last r) is))
 
     -- what the call found in `last` names a member's row
     pub last_named : (at hi base last r : ℕ) → held_at c c.level ≡ FilledBase at hi base last r → NamesMine start.shape c.level index last
@@ -161,20 +165,20 @@ module _ (p : PassView) (c : Course) (h : Holds p c) where
 
     pub pointed : (at hi base r : ℕ) → held_at c c.level ≡ Filled at hi base r → (n : ℕ) (q : PassView) → Stepped p (Point c.kind c.level (own_row start.shape p.number c.kind c.level r)) n q → Moved p c (Pointed at hi base r) q
     pointed at hi base r is n q t =
-        staged (Point c.kind c.level (own_row start.shape p.number c.kind c.level r)) n q t (inl (next_at_stage p c h free (Filled at hi base r) is)) (λ stood answer. refl) (Pointed at hi base r)
+        staged (Point c.kind c.level (own_row start.shape p.number c.kind c.level r)) n q t (plain p c (Point c.kind c.level (own_row start.shape p.number c.kind c.level r)) (next_at_stage p c h free (Filled at hi base r) is)) (λ stood answer. refl) (Pointed at hi base r)
         (ap (λ (g : Stage). in_stage (own_of p) c.kind c.level (pointed_stage g)) (stage_now p c h free (Filled at hi base r) is))
 
     pub published : (at hi base r : ℕ) → held_at c c.level ≡ Pointed at hi base r → (n : ℕ) (q : PassView) → Stepped p (Publish c.kind c.level) n q → Moved p c (Got base 0) q
     published at hi base r is n q t =
         let o : Own = own_of p in
-        moved_to (Publish c.kind c.level) n q t (inl (next_at_stage p c h free (Pointed at hi base r) is)) (λ stood answer. refl)
+        moved_to (Publish c.kind c.level) n q t (plain p c (Publish c.kind c.level) (next_at_stage p c h free (Pointed at hi base r) is)) (λ stood answer. refl)
         (own_after start p.number (Publish c.kind c.level) n o) (Got base 0) refl refl
         (ap (λ (g : Stage). put_level o.stages c.kind c.level (published_stage g)) (stage_now p c h free (Pointed at hi base r) is))
 
     -- a Peek of the row in hand, by where the call stands
     peeked_at : (r : ℕ) (field : Field) (g : Stage) → held_at c c.level ≡ g → next_step p ≡ peek_of p c r field → (n : ℕ) (q : PassView) → Stepped p (peek_of p c r field) n q → Moved p c (peeked_stage n (row_read start.shape n) g) q
     peeked_at r field g is next n q t =
-        staged (peek_of p c r field) n q t (inl next) (λ stood answer. refl) (peeked_stage n (row_read start.shape n) g)
+        staged (peek_of p c r field) n q t (plain p c (peek_of p c r field) next) (λ stood answer. refl) (peeked_stage n (row_read start.shape n) g)
         (ap (peeked_own start n (own_of p)) (climbing_at p c h free)
         ∙ ap (λ (x : Stage). in_stage (own_of p) c.kind c.level (peeked_stage n (row_read start.shape n) x)) (stage_now p c h free g is))
 
@@ -249,7 +253,7 @@ module _ (p : PassView) (c : Course) (h : Holds p c) where
 
     pub arrived : (seen : ℕ) → held_at c c.level ≡ Told seen → (n : ℕ) (q : PassView) → Stepped p (Arrive c.kind c.level (weight_below c)) n q → Moved p c (Waiting n) q
     arrived seen is n q t =
-        staged (Arrive c.kind c.level (weight_below c)) n q t (inl (next_arrive seen is)) (λ stood answer. refl) (Waiting n)
+        staged (Arrive c.kind c.level (weight_below c)) n q t (plain p c (Arrive c.kind c.level (weight_below c)) (next_arrive seen is)) (λ stood answer. refl) (Waiting n)
         (arrived_as c.level (weight_below c) n refl (λ one. false≢true (ap has_come (sym is) ∙ leaf_come one)))
 
 -- a stage that goes on is on a row, where it is none before that

@@ -1,17 +1,19 @@
 -- What a step of a call tells, by what was logged before it, and how far the call has come then.
-use Rattle.std.proofs.Common.{◌≡◌, ◌≢◌, inl, inr, ℕ, zero, suc, ◌+◌, ◌*◌, ◌-◌, ◌<◌, ◌≤◌, List, [], ◌∷◌, ◌++◌, refl, sym, ap, subst, ◌∙◌, arith, append_assoc, Bool, true, false, Option, Some, None}
+use Rattle.std.proofs.Common.{◌≡◌, ◌≢◌, ◌⊎◌, inl, inr, ℕ, zero, suc, ◌+◌, ◌*◌, ◌-◌, ◌<◌, ◌≤◌, List, [], ◌∷◌, ◌++◌, refl, sym, ap, subst, ◌∙◌, arith, append_assoc, Bool, true, false, Option, Some, None}
 use Rattle.std.specs.Prelude.{sum, slice_index_or, cond, ◌==◌}
 use Rattle.std.proofs.lemmas.Bool.{eq-eqb}
 use mathlib.Core.List.{IsPrefix}
 use Rattle.running.proofs.Logs.{none_after}
 use Rattle.fn_model.specs.declared.Kind.{Kind}
 use Rattle.fn_model.specs.Calls.{place as place_of}
-use Rattle.fn_rows.specs.declared.Field.TheVariants.{Lo}
+use Rattle.fn_rows.specs.declared.Field.TheVariants.{Lo, Base, Prev}
 use Rattle.fn_layout.specs.Tree.{IsLevel, aggregator, member, members}
 use Rattle.fn_core.specs.declared.Event.{Event}
 use Rattle.fn_core.specs.declared.Start.{Start}
 use Rattle.fn_core.specs.declared.Move.{Move}
 use Rattle.fn_core.specs.declared.Move.TheVariants.{Scan, See, Announce, Arrive, Look, Close, Apply, Head, Fill, Point, Publish, Peek, Leave, Load, Exchange, Direct, Glance}
+use Rattle.fn_core.specs.declared.Position.{Position}
+use Rattle.fn_core.specs.declared.Position.TheVariants.{Resting, Climbing, Deciding, Trying}
 use Rattle.fn_core.specs.declared.answer.CoreStep.{CoreStep}
 use Rattle.fn_core.specs.declared.answer.CoreStep.TheVariants as told
 use Rattle.fn_core.specs.State.{State, opened, history_in}
@@ -40,8 +42,8 @@ use Rattle.fn_table.specs.Seen.{PassView, Stepped, own_of, event, events_of, wit
 use Rattle.fn_table.proofs.Later.{later_by}
 use Rattle.fn_table.proofs.OwnCalls.{legal_before as legal_until, own_before as own_until, allowed_then}
 use Rattle.fn_climb.specs.declared.course.Course.{Course}
-use Rattle.fn_climb.specs.Course.{position_by, IsCourseOf, HasChosen, Holds}
-use Rattle.fn_climb.specs.Next.{next_step, IsNext}
+use Rattle.fn_climb.specs.Course.{position_by, IsCourseOf, HasChosen, Holds, pending_of}
+use Rattle.fn_climb.specs.Next.{PendingView, next_step, kept_row, in_kept_row, IsNext}
 use Rattle.fn_climb.specs.Steps.{HasSameCall, HasReplied, Went}
 
 -- a call that has begun doesn't begin again
@@ -106,6 +108,38 @@ replied_by old q (told.Ready reply) f legal = record {
 replied_by old q told.Going f legal = tt
 replied_by old q (told.NotYet why) f legal = tt
 
+-- the next step is the one that the order tells, or the first Fill in the row that was kept
+kept_cases : (q : PendingView) (m : Move) (position : Position) (step : Move) → in_kept_row q m position ≡ step → (m ≡ step) ⊎ ((first row : ℕ) × (m ≡ Fill first Lo) × (step ≡ Fill row Lo))
+kept_cases q (Fill first Lo) (Climbing kind level) step is = inr (first, kept_row q kind level, refl, sym is)
+kept_cases q (Fill first Lo) (Deciding kind level word) step is = inl is
+kept_cases q (Fill first Lo) Resting step is = inl is
+kept_cases q (Fill first Lo) (Trying word) step is = inl is
+kept_cases q (Fill first Base) position step is = inl is
+kept_cases q (Fill first Prev) position step is = inl is
+kept_cases q (Scan l j other) position step is = inl is
+kept_cases q (See l j) position step is = inl is
+kept_cases q (Announce l j) position step is = inl is
+kept_cases q (Arrive l j weight) position step is = inl is
+kept_cases q (Look l j) position step is = inl is
+kept_cases q (Close l j) position step is = inl is
+kept_cases q (Apply weight) position step is = inl is
+kept_cases q (Head l j) position step is = inl is
+kept_cases q (Point l j row) position step is = inl is
+kept_cases q (Publish l j) position step is = inl is
+kept_cases q (Peek row field) position step is = inl is
+kept_cases q (Leave l j) position step is = inl is
+kept_cases q (Load purpose) position step is = inl is
+kept_cases q (Exchange l amount) position step is = inl is
+kept_cases q (Direct amount) position step is = inl is
+kept_cases q Glance position step is = inl is
+
+pub next_cases : (q : PendingView) (step : Move) → IsNext q step → (next_step q.pass ≡ step) ⊎ ((first row : ℕ) × (next_step q.pass ≡ Fill first Lo) × (step ≡ Fill row Lo))
+next_cases q step is = kept_cases q (next_step q.pass) (own_of q.pass).caller.position step is
+
+-- a step that is no first Fill is the one that the order tells
+pub plain : (p : PassView) (c : Course) (step : Move) → next_step p ≡ step → in_kept_row (pending_of p c) (next_step p) (own_of p).caller.position ≡ in_kept_row (pending_of p c) step (own_of p).caller.position
+plain p c step next = ap (λ (m : Move). in_kept_row (pending_of p c) m (own_of p).caller.position) next
+
 module _ (p : PassView) (c : Course) (h : Holds p c) (step : Move) (n : ℕ) (q : PassView) (t : Stepped p step n q) where
   abbrev start : Start
   start = p.seen.start
@@ -134,13 +168,13 @@ module _ (p : PassView) (c : Course) (h : Holds p c) (step : Move) (n : ℕ) (q 
   pub number_after : q.number ≡ p.number
   number_after = ap (λ (v : PassView). v.number) t.now
 
-  module _ (nx : IsNext p step) where
+  module _ (nx : IsNext (pending_of p c) step) where
     pub allowed_before : Allowed start (state_in before) (event p.number step)
     allowed_before = allowed_then p step n q t
 
     -- what the step tells, in the state before it
     pub tells : step_answer start (state_in before) p.number ≡ told_by start.cap step (stage_for start (state_in before) p.number step) (answer_of start (state_in before) p.number step)
-    tells = elim nx [
+    tells = elim (next_cases (pending_of p c) step nx) [
       | inl is ↦ ap (λ (m : Move). told_by start.cap m (stage_for start (state_in before) p.number m) (answer_of start (state_in before) p.number m)) (next_before ∙ is)
       | inr other ↦
           ap (λ (m : Move). told_by start.cap m (stage_for start (state_in before) p.number m) (answer_of start (state_in before) p.number m)) (next_before ∙ other.2)
@@ -163,7 +197,7 @@ module _ (p : PassView) (c : Course) (h : Holds p c) (step : Move) (n : ℕ) (q 
         )
 
     follows_before : Follows before (with_move before p.number step) p.number (step_answer start (state_in before) p.number)
-    follows_before = elim nx [
+    follows_before = elim (next_cases (pending_of p c) step nx) [
       | inl is ↦ subst (λ (m : Move). Follows before (with_move before p.number m) p.number (step_answer start (state_in before) p.number)) (next_before ∙ is) (follows start t.before legal_before.0 legal_before.1 p.number h.inside call_before)
       | inr other ↦ subst (Follows before (with_move before p.number step) p.number) (sym (tells ∙ ap (λ (m : Move). told_by start.cap m (stage_for start (state_in before) p.number m) (answer_of start (state_in before) p.number m)) other.3)) (fills_any other.1 other.3)
     ]
@@ -193,7 +227,7 @@ module _ (p : PassView) (c : Course) (h : Holds p c) (step : Move) (n : ℕ) (q 
     follows_here told tells = subst (λ (v : PassView). Follows p.seen v.seen p.number told) (sym t.now) (follows_from told (subst (Follows before (with_move before p.number step) p.number) (sym tells) follows_before))
 
     -- what the step tells
-    pub went : (told : CoreStep) → told ≡ step_answer start (state_in before) p.number → HasSameCall p q → Went p told q
+    pub went : (told : CoreStep) → told ≡ step_answer start (state_in before) p.number → HasSameCall p q → Went (pending_of p c) told q
     went told tells same = record {
       inside = h.inside;
       call = h.call;

@@ -22,7 +22,7 @@ use Rattle.fn_core.specs.State.{Caller}
 use Rattle.fn_core.specs.Calls.{IsIdle}
 use Rattle.fn_layout.specs.Tree.{IsLevel}
 use Rattle.fn_table.specs.Later.{IsLater}
-use Rattle.fn_climb.specs.Begin.{EndsAtLeaf, IsOpen, AreOpen, HasBegun, Taken, Takes, scan_taken, row_takings, level_takings, scan_takings, finds_of, first_takings, IsLastLoad, RowsTried, Arrived, IsBeginning, IsHeld, IsRefused}
+use Rattle.fn_climb.specs.Begin.{EndsAtLeaf, IsOpen, AreOpen, AreFirstOpen, HasBegun, Taken, Takes, scan_taken, row_takings, level_takings, scan_takings, finds_of, first_takings, IsLastLoad, RowsTried, Arrived, IsBeginning, IsHeld, IsRefused}
 use Rattle.fn_table.proofs.Later.{later_on}
 use Rattle.fn_climb.proofs.Scans.{takes_on, idle_still}
 
@@ -151,7 +151,7 @@ module _ (p : PassView) (kind : Kind) (words : ℕ → ℕ → ℕ → ℕ) (lev
 -- the steps of a beginning that ends so
 module _ (p : PassView) (kind : Kind) (amount : ℕ) where
   -- in all, few steps
-  begins : (words : ℕ → ℕ → ℕ → ℕ) (rest : List Taken) (r : PassView) → Takes p (scan_takings p.seen.start.shape kind p.number (finds_of p kind words) ++ rest) r → (later : IsLater p r)
+  abbrev begins : (words : ℕ → ℕ → ℕ → ℕ) (rest : List Taken) (r : PassView) → Takes p (scan_takings p.seen.start.shape kind p.number (finds_of p kind words) ++ rest) r → (later : IsLater p r)
       → map step_of rest ≡ (if is_none (full_level_by p.seen.start.shape p.number (finds_of p kind words)) then first_steps kind amount else []) → IsBeginning p kind amount (scan_takings p.seen.start.shape kind p.number (finds_of p kind words) ++ rest) r
   begins words rest r takes later steps =
       let finds : ℕ → Finds = finds_of p kind words in
@@ -171,7 +171,7 @@ module _ (p : PassView) (kind : Kind) (amount : ℕ) where
       let row = tried.told.1 level (subst (λ (b : Start). IsLevel b.shape level) tried.still.later.start inside) in
       subst (λ (z : Start × ℕ). (slice_index_or rows (level - 1) 0 < z.0.shape.rows) × IsOpen z.0.shape z.1 (own_of q) kind level (slice_index_or rows (level - 1) 0)) (λ i. (sym tried.still.later.start i, sym tried.still.later.number i)) row
 
-  pub begun_waiting : (rows : List ℕ) (q r : PassView) → RowsTried p kind (Ok rows) q → Arrived q kind amount r → (takings : List Taken) × IsBeginning p kind amount takings r × EndsAtLeaf kind amount takings × HasBegun p kind amount r
+  pub begun_waiting : (rows : List ℕ) (q r : PassView) → RowsTried p kind (Ok rows) q → Arrived q kind amount r → (takings : List Taken) × (b : IsBeginning p kind amount takings r) × EndsAtLeaf kind amount takings × HasBegun p kind amount r × AreFirstOpen p (finds_of p kind b.words) rows
   begun_waiting rows q r tried arrived =
       let scans : List Taken = scan_takings p.seen.start.shape kind p.number (finds_of p kind tried.words) in
       let rest : List Taken = first_takings kind amount arrived.a arrived.b arrived.n in (
@@ -185,6 +185,7 @@ module _ (p : PassView) (kind : Kind) (amount : ℕ) where
           made = arrived.begun.made ∙ ap (λ (c : Caller). suc c.made) tried.still.caller;
           left = arrived.begun.left ∙ ap (λ (c : Caller). c.left) tried.still.caller;
         },
+        tried.told.2,
       )
 
   pub begun_refused : (at : Blocked) (q : PassView) → IsIdle p.seen p.number → RowsTried p kind (Err at) q

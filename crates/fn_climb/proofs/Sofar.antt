@@ -28,11 +28,11 @@ use Rattle.fn_core.proofs.Whole.{stages_of, climbing}
 use Rattle.fn_core.proofs.Laws.{holds}
 use Rattle.fn_core.proofs.Follows.{legal_parts, in_call}
 use Rattle.fn_table.specs.Seen.{PassView, event, with_log}
-use Rattle.fn_climb.specs.Next.{IsNext}
+use Rattle.fn_climb.specs.Next.{PendingView, IsNext}
 use Rattle.fn_climb.specs.Steps.{HasSameCall, Went}
 use Rattle.fn_climb.specs.Turns.{GoesOn, Polled}
 use Rattle.running.proofs.Logs.{prefix_on}
-use Rattle.fn_climb.proofs.Onward.{joined_from}
+use Rattle.fn_climb.proofs.Onward.{joined_from, next_cases}
 
 -- no aggregator has more rows than all passes have
 pub all_rows : (start : Start) (pass : ℕ) → HoldsRows start pass (start.shape.passes * start.shape.rows)
@@ -73,28 +73,32 @@ some_left core p n legal range u = ⊎_elim climbs decides (in_call core.start c
     decides : (kind : Kind) × (level word : ℕ) × ((s.callers p).position ≡ Deciding kind level word) → 1 ≤ steps_left core.start s p n
     decides (kind, level, word, is) = omega (arith, ap (steps_left_by core.start s p n) is)
 
--- a pass with another log
-abbrev pub at : PassView → List Event → PassView
-at p log = record p { seen = with_log p log }
+-- a call with its pass elsewhere
+abbrev pub on : PendingView → PassView → PendingView
+on p r = record p { pass = r }
+
+-- its pass with another log
+abbrev pub at : PendingView → List Event → PassView
+at p log = record p.pass { seen = with_log p.pass log }
 
 -- The steps of a poll so far, after which the pass has this log
-pub record SoFarAt (p : PassView) (log : List Event) : Type 0 where
+pub record SoFarAt (p : PendingView) (log : List Event) : Type 0 where
   pub steps : List Move
   pub goes : GoesOn p steps (at p log)
-  pub few : (n : ℕ) → HoldsRows p.seen.start p.number n → length steps + steps_left p.seen.start (state_in (with_log p log)) p.number n ≤ steps_left p.seen.start (state_in p.seen) p.number n
-  pub once : (exchanges steps ≡ 0) ⊎ ((exchanges steps ≡ 1) × ((n : ℕ) → HoldsRows p.seen.start p.number n → steps_left p.seen.start (state_in (with_log p log)) p.number n < 8 * p.seen.start.shape.levels))
+  pub few : (n : ℕ) → HoldsRows p.seen.start p.number n → length steps + steps_left p.seen.start (state_in (with_log p.pass log)) p.number n ≤ steps_left p.seen.start (state_in p.seen) p.number n
+  pub once : (exchanges steps ≡ 0) ⊎ ((exchanges steps ≡ 1) × ((n : ℕ) → HoldsRows p.seen.start p.number n → steps_left p.seen.start (state_in (with_log p.pass log)) p.number n < 8 * p.seen.start.shape.levels))
   pub begins : IsPrefix p.seen.log log
-  pub same : HasSameCall p (at p log)
+  pub same : HasSameCall p.pass (at p log)
 
-abbrev pub SoFar : PassView → PassView → Type 0
+abbrev pub SoFar : PendingView → PassView → Type 0
 SoFar p r = (log : List Event) × (r ≡ at p log) × SoFarAt p log
 
-pub sofar_none : (p : PassView) → SoFar p p
+pub sofar_none : (p : PendingView) → SoFar p p.pass
 sofar_none p = (p.seen.log, refl, record { steps = []; goes = refl; few = λ n rows. omega arith; once = inl refl; begins = prefix_refl p.seen.log; same = record { made = refl; last = refl; left = refl } })
 
-goes_more : (p r s : PassView) (steps : List Move) → GoesOn p steps r → (w : Went r told.Going s) → GoesOn p (steps ++ w.step ∷ []) s
-goes_more p r s [] is w = let last = subst (λ (v : PassView). (x : Went v told.Going s) × (x.step ≡ w.step)) is (w, refl) in (s, last.0, last.1, refl)
-goes_more p r s (step ∷ steps) goes w = (goes.0, goes.1, goes.2, goes_more goes.0 r s steps goes.3 w)
+goes_more : (p : PendingView) (r s : PassView) (steps : List Move) → GoesOn p steps r → (w : Went (on p r) told.Going s) → GoesOn p (steps ++ w.step ∷ []) s
+goes_more p r s [] is w = let last = subst (λ (v : PassView). (x : Went (on p v) told.Going s) × (x.step ≡ w.step)) is (w, refl) in (s, last.0, last.1, refl)
+goes_more p r s (step ∷ steps) goes w = (goes.0, goes.1, goes.2, goes_more (on p goes.0) r s steps goes.3 w)
 
 -- one more step, which may be an exchange
 exchanges_more : (steps : List Move) (step : Move) → exchanges (steps ++ step ∷ []) ≡ exchanges steps + (if is_exchange step then 1 else 0)
@@ -118,23 +122,25 @@ exchange_is _ is = absurd (false≢true is)
 same_on : (p q r : PassView) → HasSameCall p q → HasSameCall q r → HasSameCall p r
 same_on p q r a b = record { made = b.made ∙ a.made; last = b.last ∙ a.last; left = b.left ∙ a.left }
 
-module _ (p : PassView) (log : List Event) (so : SoFarAt p log) where
-  abbrev now : PassView
-  now = at p log
+module _ (p : PendingView) (log : List Event) (so : SoFarAt p log) where
+  abbrev now : PendingView
+  now = on p (at p log)
 
   abbrev left_now : ℕ → ℕ
-  left_now n = steps_left p.seen.start (state_in (with_log p log)) p.number n
+  left_now n = steps_left p.seen.start (state_in (with_log p.pass log)) p.number n
 
   abbrev few_rows : HoldsRows p.seen.start p.number (p.seen.start.shape.passes * p.seen.start.shape.rows)
   few_rows = all_rows p.seen.start p.number
 
   -- an exchange comes with just so many steps left
-  at_exchange : (step : Move) → IsNext now step → HasFewLeft (with_log p log) p.number → is_exchange step ≡ true → (n : ℕ) → HoldsRows p.seen.start p.number n → left_now n ≡ 8 * p.seen.start.shape.levels
-  at_exchange step (inl next) few is n rows = let e = exchange_is step is in (few n rows).1 e.0 e.1 (next ∙ e.2)
-  at_exchange step (inr other) few is n rows = absurd (false≢true (sym (ap is_exchange other.3) ∙ is))
+  at_exchange : (step : Move) → IsNext now step → HasFewLeft (with_log p.pass log) p.number → is_exchange step ≡ true → (n : ℕ) → HoldsRows p.seen.start p.number n → left_now n ≡ 8 * p.seen.start.shape.levels
+  at_exchange step next few is n rows = elim (next_cases now step next) [
+    | inl same ↦ let e = exchange_is step is in (few n rows).1 e.0 e.1 (same ∙ e.2)
+    | inr other ↦ absurd (false≢true (sym (ap is_exchange other.3) ∙ is))
+  ]
 
   -- so there is none after another
-  at_most_one : (step : Move) → IsNext now step → HasFewLeft (with_log p log) p.number → exchanges (so.steps ++ step ∷ []) ≤ 1
+  at_most_one : (step : Move) → IsNext now step → HasFewLeft (with_log p.pass log) p.number → exchanges (so.steps ++ step ∷ []) ≤ 1
   at_most_one step next few = by (is_exchange step) refl so.once
     where
       count : exchanges (so.steps ++ step ∷ []) ≡ exchanges so.steps + (if is_exchange step then 1 else 0)
@@ -155,17 +161,17 @@ module _ (p : PassView) (log : List Event) (so : SoFarAt p log) where
     unfolding after
     s_is = w.stepped.now
 
-    left_after : (n : ℕ) → HoldsRows p.seen.start p.number n → steps_left p.seen.start (state_in (with_log p after)) p.number n < left_now n
+    left_after : (n : ℕ) → HoldsRows p.seen.start p.number n → steps_left p.seen.start (state_in (with_log p.pass after)) p.number n < left_now n
     left_after n rows = subst (λ (v : PassView). steps_left v.seen.start (state_in v.seen) p.number n < left_now n) s_is (w.follows.1 n rows)
 
-    once_more : (exchanges (so.steps ++ w.step ∷ []) ≡ 0) ⊎ ((exchanges (so.steps ++ w.step ∷ []) ≡ 1) × ((n : ℕ) → HoldsRows p.seen.start p.number n → steps_left p.seen.start (state_in (with_log p after)) p.number n < 8 * p.seen.start.shape.levels))
+    once_more : (exchanges (so.steps ++ w.step ∷ []) ≡ 0) ⊎ ((exchanges (so.steps ++ w.step ∷ []) ≡ 1) × ((n : ℕ) → HoldsRows p.seen.start p.number n → steps_left p.seen.start (state_in (with_log p.pass after)) p.number n < 8 * p.seen.start.shape.levels))
     once_more = by (is_exchange (w.step)) refl so.once
       where
         count : exchanges (so.steps ++ w.step ∷ []) ≡ exchanges so.steps + (if is_exchange (w.step) then 1 else 0)
         count = exchanges_more so.steps (w.step)
 
         by : (b : Bool) → is_exchange (w.step) ≡ b → (exchanges so.steps ≡ 0) ⊎ ((exchanges so.steps ≡ 1) × ((n : ℕ) → HoldsRows p.seen.start p.number n → left_now n < 8 * p.seen.start.shape.levels))
-            → (exchanges (so.steps ++ w.step ∷ []) ≡ 0) ⊎ ((exchanges (so.steps ++ w.step ∷ []) ≡ 1) × ((n : ℕ) → HoldsRows p.seen.start p.number n → steps_left p.seen.start (state_in (with_log p after)) p.number n < 8 * p.seen.start.shape.levels))
+            → (exchanges (so.steps ++ w.step ∷ []) ≡ 0) ⊎ ((exchanges (so.steps ++ w.step ∷ []) ≡ 1) × ((n : ℕ) → HoldsRows p.seen.start p.number n → steps_left p.seen.start (state_in (with_log p.pass after)) p.number n < 8 * p.seen.start.shape.levels))
         by true is (inl none) =
             let c = count ∙ ap (λ (b : Bool). exchanges so.steps + (if b then 1 else 0)) is in
             inr (omega (arith, c, none), λ n rows. omega (arith, left_after n rows, at_exchange w.step w.next w.few is n rows))
@@ -178,29 +184,29 @@ module _ (p : PassView) (log : List Event) (so : SoFarAt p log) where
     more : SoFarAt p after
     more = record {
       steps = so.steps ++ w.step ∷ [];
-      goes = subst (GoesOn p (so.steps ++ w.step ∷ [])) s_is (goes_more p now s so.steps so.goes w);
+      goes = subst (GoesOn p (so.steps ++ w.step ∷ [])) s_is (goes_more p now.pass s so.steps so.goes w);
       few = λ n rows. let f = so.few n rows in omega (arith, f, left_after n rows, length-append so.steps (w.step ∷ []));
       once = once_more;
       begins = let l : IsPrefix log s.seen.log = w.later.begins in subst (λ (v : PassView). IsPrefix p.seen.log v.seen.log) s_is (prefix_on p.seen.log log s.seen.log so.begins l);
-      same = same_on p now (at p after) so.same (subst (HasSameCall now) s_is w.same);
+      same = same_on p.pass now.pass (at p after) so.same (subst (HasSameCall now.pass) s_is w.same);
     }
 
     pub sofar_more : SoFar p s
     sofar_more = (after, s_is, more)
 
 -- a poll begins with few steps left
-few_first : (p r : PassView) (steps : List Move) → GoesOn p steps r → HasFewLeft r.seen r.number → HasFewLeft p.seen p.number
+few_first : (p : PendingView) (r : PassView) (steps : List Move) → GoesOn p steps r → HasFewLeft r.seen r.number → HasFewLeft p.seen p.number
 few_first p r [] is few = subst (λ (v : PassView). HasFewLeft v.seen v.number) is few
 few_first p r (step ∷ steps) goes few = goes.1.few
 
-module _ (p : PassView) (log : List Event) (so : SoFarAt p log) (q : PassView) where
-  follows_on : (told : CoreStep) → Follows (with_log p log) q.seen p.number told → is_going told ≡ false → Follows p.seen q.seen p.number told
+module _ (p : PendingView) (log : List Event) (so : SoFarAt p log) (q : PassView) where
+  follows_on : (told : CoreStep) → Follows (with_log p.pass log) q.seen p.number told → is_going told ≡ false → Follows p.seen q.seen p.number told
   follows_on (told.Ready reply) f ends = (f.0, f.1, joined_from p.seen.start p.seen.log log q.seen p.number so.begins f.2)
   follows_on (told.NotYet why) f ends = f
   follows_on told.Going f ends = absurd (false≢true (sym ends))
 
   -- the step that ends a poll
-  pub polled_at : (told : CoreStep) → Went (at p log) told q → is_going told ≡ false → Polled p told q
+  pub polled_at : (told : CoreStep) → Went (on p (at p log)) told q → is_going told ≡ false → Polled p told q
   polled_at told w ends = record {
     steps = so.steps;
     until = at p log;
@@ -209,17 +215,17 @@ module _ (p : PassView) (log : List Event) (so : SoFarAt p log) (q : PassView) w
     ends = ends;
     short = λ n rows.
         let few = so.few n rows in
-        let some_steps : 1 ≤ steps_left p.seen.start (state_in (with_log p log)) p.number n = some_left (with_log p log) p.number n (legal_log w) w.inside w.call in
+        let some_steps : 1 ≤ steps_left p.seen.start (state_in (with_log p.pass log)) p.number n = some_left (with_log p.pass log) p.number n (legal_log w) w.inside w.call in
         let most = (few_first p (at p log) so.steps so.goes w.few n rows).0 in
         omega (arith, few, some_steps, most);
     once = at_most_one p log so w.step w.next w.few;
     later = record { table = w.later.table; number = w.later.number; start = w.later.start; begins = prefix_on p.seen.log log q.seen.log so.begins w.later.begins; legal = w.later.legal };
     follows = follows_on told w.follows ends;
     replied = w.replied;
-    same = same_on p (at p log) q so.same w.same;
+    same = same_on p.pass (at p log) q so.same w.same;
   }
     where
-      legal_log : Went (at p log) told q → IsLegal (with_log p log)
+      legal_log : Went (on p (at p log)) told q → IsLegal (with_log p.pass log)
       legal_log w =
           let t = w.stepped in
           let t_step : Move = w.step in
@@ -227,17 +233,17 @@ module _ (p : PassView) (log : List Event) (so : SoFarAt p log) (q : PassView) w
           let before = (legal_parts p.seen.start t.before (event p.number t_step ∷ []) (opened p.seen.start) whole.1).0 in
           (whole.0, (legal_parts p.seen.start log t.begins.0 (opened p.seen.start) (subst (λ (l : List Event). Legal p.seen.start l (opened p.seen.start)) (sym t.begins.1) before)).0)
 
-pub polled : (p r q : PassView) (told : CoreStep) → SoFar p r → Went r told q → is_going told ≡ false → Polled p told q
-polled p r q told (log, is, so) w ends = polled_at p log so q told (subst (λ (v : PassView). Went v told q) is w) ends
+pub polled : (p : PendingView) (r q : PassView) (told : CoreStep) → SoFar p r → Went (on p r) told q → is_going told ≡ false → Polled p told q
+polled p r q told (log, is, so) w ends = polled_at p log so q told (subst (λ (v : PassView). Went (on p v) told q) is w) ends
 
-pub sofar_on : (p r s : PassView) → SoFar p r → Went r told.Going s → SoFar p s
-sofar_on p r s (log, is, so) w = sofar_more p log so s (subst (λ (v : PassView). Went v told.Going s) is w)
+pub sofar_on : (p : PendingView) (r s : PassView) → SoFar p r → Went (on p r) told.Going s → SoFar p s
+sofar_on p r s (log, is, so) w = sofar_more p log so s (subst (λ (v : PassView). Went (on p v) told.Going s) is w)
 
 -- more steps than a call has left
 abbrev pub left_in : PassView → ℕ
 left_in p = steps_left p.seen.start (state_in p.seen) p.number (p.seen.start.shape.passes * p.seen.start.shape.rows)
 
-pub falls : (r s : PassView) → Went r told.Going s → left_in s < left_in r
+pub falls : (r : PendingView) (s : PassView) → Went r told.Going s → left_in s < left_in r.pass
 falls r s w =
     let fewer = w.follows.1 (r.seen.start.shape.passes * r.seen.start.shape.rows) (all_rows r.seen.start r.number) in
     let same : left_in s ≡ steps_left s.seen.start (state_in s.seen) r.number (r.seen.start.shape.passes * r.seen.start.shape.rows) =
@@ -245,10 +251,17 @@ falls r s w =
     omega (arith, fewer, same)
 
 -- several steps more
-pub sofar_along : (p r s : PassView) (steps : List Move) → SoFar p r → GoesOn r steps s → SoFar p s
+pub sofar_along : (p : PendingView) (r s : PassView) (steps : List Move) → SoFar p r → GoesOn (on p r) steps s → SoFar p s
 sofar_along p r s [] so is = subst (SoFar p) (sym is) so
 sofar_along p r s (step ∷ steps) so goes = sofar_along p goes.0 s steps (sofar_on p r goes.0 so goes.1) goes.3
 
-pub falls_along : (r s : PassView) (steps : List Move) → GoesOn r steps s → left_in s ≤ left_in r
-falls_along r s [] is = let e : left_in s ≡ left_in r = ap left_in is in omega (arith, e)
-falls_along r s (step ∷ steps) goes = let more = falls_along goes.0 s steps goes.3 in let one = falls r goes.0 goes.1 in omega (arith, more, one)
+pub falls_along : (r : PendingView) (s : PassView) (steps : List Move) → GoesOn r steps s → left_in s ≤ left_in r.pass
+falls_along r s [] is = let e : left_in s ≡ left_in r.pass = ap left_in is in omega (arith, e)
+falls_along r s (step ∷ steps) goes = let more = falls_along (on r goes.0) s steps goes.3 in let one = falls r goes.0 goes.1 in omega (arith, more, one)
+
+-- a step of a call with these rows
+pub with_rows : (r : PassView) (rows kept : List ℕ) (told : CoreStep) (q : PassView) → rows ≡ kept → Went (record { pass = r; rows = rows }) told q → Went (record { pass = r; rows = kept }) told q
+with_rows r rows kept told q same = subst (λ (xs : List ℕ). Went (record { pass = r; rows = xs }) told q) same
+
+pub along_rows : (r : PassView) (rows kept : List ℕ) (steps : List Move) (q : PassView) → rows ≡ kept → GoesOn (record { pass = r; rows = rows }) steps q → GoesOn (record { pass = r; rows = kept }) steps q
+along_rows r rows kept steps q same = subst (λ (xs : List ℕ). GoesOn (record { pass = r; rows = xs }) steps q) same

@@ -29,10 +29,10 @@ use Rattle.fn_core.specs.Calls.{state_in, exchange_told, told_by, step_answer}
 use Rattle.fn_table.specs.Seen.{TableView, IsOf, PassView, May, Stepped, own_of, with_log}
 use Rattle.fn_climb.specs.declared.course.Course.{Course}
 use Rattle.fn_climb.specs.Next.{next_step}
-use Rattle.fn_climb.specs.Course.{held_at, at_stage, IsCourseOf, Holds}
+use Rattle.fn_climb.specs.Course.{held_at, at_stage, IsCourseOf, Holds, pending_of}
 use Rattle.fn_climb.specs.Steps.{Went}
 use Rattle.fn_climb.proofs.Underway.{placed, climbing_at, deciding_at, next_at_stage, may_at_stage, next_exchange, stage_now, held_is}
-use Rattle.fn_climb.proofs.Onward.{own_before, tells, went, holds_then}
+use Rattle.fn_climb.proofs.Onward.{own_before, tells, went, holds_then, plain}
 use Rattle.fn_climb.proofs.Goes.{level_other, course_put, same_call, goes, at_rest}
 
 -- a stage that is written where it stands
@@ -79,7 +79,7 @@ module _ (p : PassView) (c : Course) (h : Holds p c) where
 
     finds : step_answer start (state_in (with_log p t.before)) p.number ≡ exchange_told (if n == word then answers.Won else answers.Lost word n)
     finds =
-        tells p c h (Exchange c.kind weight) n q t (inl next)
+        tells p c h (Exchange c.kind weight) n q t (plain p c (Exchange c.kind weight) next)
         ∙ (λ i. exchange_told (exchange_answer (sym t.answer i) ((ap (λ (o : Own). o.caller.position) (own_before p c h (Exchange c.kind weight) n q t) ∙ deciding_at p c h word loaded) i)))
 
     won_own : Own
@@ -92,26 +92,29 @@ module _ (p : PassView) (c : Course) (h : Holds p c) where
     unfolding won_own lost_own
     leaves_own = t.own ∙ ap (exchanged_own p.number c.kind weight n (own_of p)) (deciding_at p c h word loaded)
 
-    pub exchange_won : n ≡ word → Went p told.Going q × Holds q (at_stage c c.level (based_stage n (held_at c c.level)))
+    pub exchange_won : n ≡ word → Went (pending_of p c) told.Going q × (Holds q (at_stage c c.level (based_stage n (held_at c c.level))) × (c.rows ≡ c.rows))
     unfolding won_own
     exchange_won same =
         let yes : (n == word) ≡ true = eq-eqb n word same in
         let won : own_of q ≡ won_own = leaves_own ∙ ap (λ (b : Bool). if b then won_own else lost_own) yes in
-        goes p c h (Exchange c.kind weight) n q t (inl next) (sym (finds ∙ ap (λ (b : Bool). exchange_told (if b then answers.Won else answers.Lost word n)) yes)) c.level (based_stage n (held_at c c.level)) (placed p c h).1
+        goes p c h (Exchange c.kind weight) n q t (plain p c (Exchange c.kind weight) next) (sym (finds ∙ ap (λ (b : Bool). exchange_told (if b then answers.Won else answers.Lost word n)) yes)) c.level (based_stage n (held_at c c.level)) (placed p c h).1
         (ap (λ (o : Own). o.caller) won) (ap (λ (o : Own). o.stages) won ∙ ap (λ (g : Stage). put_level (own_of p).stages c.kind c.level (based_stage n g)) (sym (held_is p c h)))
 
-    pub exchange_lost : n ≢ word → Went p (told.NotYet (Lost word n)) q × Holds q (at_stage c c.level (held_at c c.level))
+    pub exchange_lost : n ≢ word → Went (pending_of p c) (told.NotYet (Lost word n)) q × (Holds q (at_stage c c.level (held_at c c.level)) × (c.rows ≡ c.rows))
     unfolding lost_own
     exchange_lost other =
         let no_one : (n == word) ≡ false = ne_eqb n word other in
         let lost : own_of q ≡ lost_own = leaves_own ∙ ap (λ (b : Bool). if b then won_own else lost_own) no_one in
-        let w = went p c h (Exchange c.kind weight) n q t (inl next) (told.NotYet (Lost word n)) (sym (finds ∙ ap (λ (b : Bool). exchange_told (if b then answers.Won else answers.Lost word n)) no_one)) (same_call p c h q (Climbing c.kind c.level) (ap (λ (o : Own). o.caller) lost)) in (
+        let w = went p c h (Exchange c.kind weight) n q t (plain p c (Exchange c.kind weight) next) (told.NotYet (Lost word n)) (sym (finds ∙ ap (λ (b : Bool). exchange_told (if b then answers.Won else answers.Lost word n)) no_one)) (same_call p c h q (Climbing c.kind c.level) (ap (λ (o : Own). o.caller) lost)) in (
           w,
-          holds_then p c h (Exchange c.kind weight) n q t (inl next) (at_stage c c.level (held_at c c.level)) refl refl (record {
-            position = ap (λ (o : Own). o.caller.position) lost;
-            three = length-set c.stages (c.level - 1) (held_at c c.level) ∙ h.course.three;
-            stages = λ l inside. held_same start.shape c c.level l h.course.three (placed p c h).1 inside ∙ h.course.stages l inside ∙ sym (ap (λ (o : Own). o.stages c.kind l) lost);
-          }) w.follows,
+          (
+            holds_then p c h (Exchange c.kind weight) n q t (plain p c (Exchange c.kind weight) next) (at_stage c c.level (held_at c c.level)) refl refl (record {
+              position = ap (λ (o : Own). o.caller.position) lost;
+              three = length-set c.stages (c.level - 1) (held_at c c.level) ∙ h.course.three;
+              stages = λ l inside. held_same start.shape c c.level l h.course.three (placed p c h).1 inside ∙ h.course.stages l inside ∙ sym (ap (λ (o : Own). o.stages c.kind l) lost);
+            }) w.follows,
+            refl,
+          ),
         )
 
   module _ (free : c.word ≡ None) where
@@ -124,10 +127,10 @@ module _ (p : PassView) (c : Course) (h : Holds p c) where
         pub may_see : (level : ℕ) → level ≡ suc c.level → May p (See c.kind level)
         may_see level up = subst (λ (l : ℕ). May p (See c.kind l)) (sym up) (subst (May p) (sym (next_at_stage p c h free (Shut at hi) is) ∙ next_up) (may_at_stage p c h free (Shut at hi) is))
 
-        pub saw_above : (level : ℕ) → level ≡ suc c.level → (n : ℕ) (q : PassView) → Stepped p (See c.kind level) n q → Went p told.Going q × Holds q (at_stage c level (Saw n))
+        pub saw_above : (level : ℕ) → level ≡ suc c.level → (n : ℕ) (q : PassView) → Stepped p (See c.kind level) n q → Went (pending_of p c) told.Going q × (Holds q (at_stage c level (Saw n)) × (c.rows ≡ c.rows))
         saw_above level up n q t =
             let next : next_step p ≡ See c.kind level = next_up ∙ ap (See c.kind) (sym up) in
-            goes p c h (See c.kind level) n q t (inl next) (sym (tells p c h (See c.kind level) n q t (inl next))) level (Saw n) (omega (arith, up), omega (arith, up, below)) (ap (λ (o : Own). o.caller) t.own) (ap (λ (o : Own). o.stages) t.own)
+            goes p c h (See c.kind level) n q t (plain p c (See c.kind level) next) (sym (tells p c h (See c.kind level) n q t (plain p c (See c.kind level) next))) level (Saw n) (omega (arith, up), omega (arith, up, below)) (ap (λ (o : Own). o.caller) t.own) (ap (λ (o : Own). o.stages) t.own)
 
       -- at the top it enters the main word
       module _ (top : c.level ≡ start.shape.levels) where
@@ -146,11 +149,11 @@ module _ (p : PassView) (c : Course) (h : Holds p c) where
         pub may_apply : c.kind ≡ Add → start.cap ≡ no_cap → May p (Apply weight)
         may_apply adds uncapped = subst (May p) (applies adds uncapped) may_top
 
-        pub applied : c.kind ≡ Add → start.cap ≡ no_cap → (n : ℕ) (q : PassView) → Stepped p (Apply weight) n q → Went p told.Going q × Holds q (at_stage c c.level (based_stage n (held_at c c.level)))
+        pub applied : c.kind ≡ Add → start.cap ≡ no_cap → (n : ℕ) (q : PassView) → Stepped p (Apply weight) n q → Went (pending_of p c) told.Going q × (Holds q (at_stage c c.level (based_stage n (held_at c c.level))) × (c.rows ≡ c.rows))
         applied adds uncapped n q t =
             let next : next_step p ≡ Apply weight = next_top ∙ applies adds uncapped in
             let after : own_of q ≡ in_stage (own_of p) c.kind c.level (based_stage n ((own_of p).stages c.kind c.level)) = t.own ∙ ap (based_own n (own_of p)) (climbing_at p c h free) in
-            goes p c h (Apply weight) n q t (inl next) (sym (tells p c h (Apply weight) n q t (inl next))) c.level (based_stage n (held_at c c.level)) (placed p c h).1
+            goes p c h (Apply weight) n q t (plain p c (Apply weight) next) (sym (tells p c h (Apply weight) n q t (plain p c (Apply weight) next))) c.level (based_stage n (held_at c c.level)) (placed p c h).1
             (ap (λ (o : Own). o.caller) after ∙ at_rest p c h free) (ap (λ (o : Own). o.stages) after ∙ ap (λ (g : Stage). put_level (own_of p).stages c.kind c.level (based_stage n g)) (sym (held_is p c h)))
 
         module _ (tries : (same_kind c.kind Add && (start.cap == no_cap)) ≡ false) where
@@ -160,14 +163,17 @@ module _ (p : PassView) (c : Course) (h : Holds p c) where
           pub may_load : May p (Load Try)
           may_load = subst (May p) loads may_top
 
-          pub loaded_word : (n : ℕ) (q : PassView) → Stepped p (Load Try) n q → Went p told.Going q × Holds q (record c { word = Some n })
+          pub loaded_word : (n : ℕ) (q : PassView) → Stepped p (Load Try) n q → Went (pending_of p c) told.Going q × (Holds q (record c { word = Some n }) × (c.rows ≡ c.rows))
           loaded_word n q t =
               let next : next_step p ≡ Load Try = next_top ∙ loads in
               let after : own_of q ≡ in_position (own_of p) (Deciding c.kind c.level n) = t.own ∙ ap (loaded_own n (own_of p)) (climbing_at p c h free) in
-              let w = went p c h (Load Try) n q t (inl next) told.Going (sym (tells p c h (Load Try) n q t (inl next))) (same_call p c h q (Deciding c.kind c.level n) (ap (λ (o : Own). o.caller) after)) in (
+              let w = went p c h (Load Try) n q t (plain p c (Load Try) next) told.Going (sym (tells p c h (Load Try) n q t (plain p c (Load Try) next))) (same_call p c h q (Deciding c.kind c.level n) (ap (λ (o : Own). o.caller) after)) in (
                 w,
-                holds_then p c h (Load Try) n q t (inl next) (record c { word = Some n }) refl refl
-                    (record { position = ap (λ (o : Own). o.caller.position) after; three = h.course.three; stages = λ l inside. h.course.stages l inside ∙ sym (ap (λ (o : Own). o.stages c.kind l) after) }) w.follows.0,
+                (
+                  holds_then p c h (Load Try) n q t (plain p c (Load Try) next) (record c { word = Some n }) refl refl
+                      (record { position = ap (λ (o : Own). o.caller.position) after; three = h.course.three; stages = λ l inside. h.course.stages l inside ∙ sym (ap (λ (o : Own). o.stages c.kind l) after) }) w.follows.0,
+                  refl,
+                ),
               )
 
     -- the call leaves its aggregator with a base
@@ -189,12 +195,12 @@ module _ (p : PassView) (c : Course) (h : Holds p c) where
       rests_by (suc zero) one = refl
       rests_by (suc (suc below)) one = absurd (omega (arith, one))
 
-      pub left_leaf : c.level ≡ 1 → Went p (told.Ready (after start.cap base c.kind ahead)) q
+      pub left_leaf : c.level ≡ 1 → Went (pending_of p c) (told.Ready (after start.cap base c.kind ahead)) q
       left_leaf one =
           let rest : own_of q ≡ in_position (out_of (own_of p) c.kind c.level) Resting = t.own ∙ rests_by c.level one in
           let there : stage start (state_in (with_log p t.before)) c.kind c.level p.number ≡ (own_of p).stages c.kind c.level = ap (λ (o : Own). o.stages c.kind c.level) (own_before p c h (Leave c.kind c.level) n q t) in
-          went p c h (Leave c.kind c.level) n q t (inl next_leave) (told.Ready (after start.cap base c.kind ahead))
-          (sym (ends_by c.level one (tells p c h (Leave c.kind c.level) n q t (inl next_leave)) ∙ ap told.Ready (ap (reply_of start.cap c.kind) there ∙ replies)))
+          went p c h (Leave c.kind c.level) n q t (plain p c (Leave c.kind c.level) next_leave) (told.Ready (after start.cap base c.kind ahead))
+          (sym (ends_by c.level one (tells p c h (Leave c.kind c.level) n q t (plain p c (Leave c.kind c.level) next_leave)) ∙ ap told.Ready (ap (reply_of start.cap c.kind) there ∙ replies)))
           (same_call p c h q Resting (ap (λ (o : Own). o.caller) rest))
 
       -- or it goes down a level
@@ -233,15 +239,18 @@ module _ (p : PassView) (c : Course) (h : Holds p c) where
         going_by (suc zero) e stood answer = absurd (omega (arith, e, low))
         going_by (suc (suc k)) e stood answer = refl
 
-        pub left_down : Went p told.Going q × Holds q (at_stage (at_stage c c.level Out) below lower)
+        pub left_down : Went (pending_of p c) told.Going q × (Holds q (at_stage (at_stage c c.level Out) below lower) × (c.rows ≡ c.rows))
         left_down =
             let step : Move = Leave c.kind c.level in
-            let w = went p c h step n q t (inl next_leave) told.Going (sym (tells p c h step n q t (inl next_leave) ∙ going_by c.level up _ _)) (same_call p c h q (Climbing c.kind below) (ap (λ (o : Own). o.caller) gone)) in
+            let w = went p c h step n q t (plain p c (Leave c.kind c.level) next_leave) told.Going (sym (tells p c h step n q t (plain p c (Leave c.kind c.level) next_leave) ∙ going_by c.level up _ _)) (same_call p c h q (Climbing c.kind below) (ap (λ (o : Own). o.caller) gone)) in
             let o1 : Own = in_position left (Climbing c.kind c.level) in
             let first : IsCourseOf start o1 (at_stage c c.level Out) = course_put start (own_of p) o1 c c.level Out (placed p c h).1 h.course.three h.course.stages refl refl in (
               w,
-              holds_then p c h step n q t (inl next_leave) (at_stage (at_stage c c.level Out) below lower) refl refl
-                  (course_put start o1 (own_of q) (at_stage c c.level Out) below lower inside_below first.three first.stages (ap (λ (o : Own). o.caller.position) gone) (ap (λ (o : Own). o.stages) gone)) w.follows.0,
+              (
+                holds_then p c h step n q t (plain p c (Leave c.kind c.level) next_leave) (at_stage (at_stage c c.level Out) below lower) refl refl
+                    (course_put start o1 (own_of q) (at_stage c c.level Out) below lower inside_below first.three first.stages (ap (λ (o : Own). o.caller.position) gone) (ap (λ (o : Own). o.stages) gone)) w.follows.0,
+                refl,
+              ),
             )
 
         pub held_lower : held_at (at_stage c c.level Out) below ≡ held_at c below

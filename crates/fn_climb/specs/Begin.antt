@@ -4,9 +4,10 @@
 --     RowTried, LevelTried, RowsTried      one row was tried, the rows of a level, and those of all levels
 --     IsBeginning pass kind amount takings after      the steps by which a call begins
 --     HasBegun pass kind amount after, IsRefused pass kind takings at      the call that it made, or why it is refused
+--     AreFirstOpen pass finds rows      at each level the row is the first that is open by these finds
 --     BeginAnswers pass kind amount answer      what a beginning answers
 use Rattle.std.specs.Prelude.{◌≡◌, ◌≢◌, ◌⊎◌, ℕ, suc, ◌+◌, ◌-◌, ◌*◌, ◌<◌, ◌≤◌, List, [], ◌∷◌, ◌++◌, Option, Some, None, map, length, option_map, Result, Ok, Err, true, false, slice_index_or}
-use Rattle.std.specs.List.{range_with_len, flat_map, Contains}
+use Rattle.std.specs.List.{range_with_len, find, flat_map, Contains}
 use Rattle.fn_model.specs.declared.Kind.{Kind}
 use Rattle.fn_rows.specs.Machine.{Lets}
 use Rattle.fn_layout.specs.declared.shape.Shape.{Shape}
@@ -16,7 +17,7 @@ use Rattle.fn_core.specs.declared.Move.TheVariants.{Scan, See, Announce, Arrive}
 use Rattle.fn_core.specs.declared.answer.Blocked.{Blocked}
 use Rattle.fn_core.specs.Words.{Own}
 use Rattle.fn_core.specs.Calls.{IsIdle}
-use Rattle.fn_core.specs.Begin.{Finds, WaitsAtLeaf, up_to, blocker_by, scanned_by, rows_tried_by, has_open_by, is_full_by, full_level_by, begin_moves_by}
+use Rattle.fn_core.specs.Begin.{Finds, WaitsAtLeaf, up_to, blocker_by, scanned_by, is_open_by, rows_tried_by, has_open_by, is_full_by, full_level_by, begin_moves_by}
 use Rattle.fn_table.specs.Seen.{PassView, Stepped, own_of}
 use Rattle.fn_table.specs.Later.{IsLater}
 use Rattle.fn_climb.specs.declared.beginning.Begun.{Begun}
@@ -83,9 +84,14 @@ IsLastLoad p finds level at =
     let last = p.seen.start.shape.rows - 1 in
     (other : ℕ) × (blocker_by p.seen.start.shape level p.number (finds.words last) (finds.ends last) ≡ Some other) × (at ≡ blocked_load level last (finds.words last) other)
 
+-- the first row of a level that is open by these finds
+abbrev pub first_open_by : Shape → ℕ → ℕ → Finds → Option ℕ
+first_open_by shape level pass finds = find (is_open_by shape level pass finds) (range_with_len 0 shape.rows)
+
 -- .. of a level, by whether it has an open row
 abbrev pub LevelTold : PassView → Kind → ℕ → Finds → PassView → Result ℕ Blocked → Type 0
-LevelTold p kind level finds q (Ok row) = (has_open_by p.seen.start.shape level p.number finds ≡ true) × (row < p.seen.start.shape.rows) × IsOpen p.seen.start.shape p.number (own_of q) kind level row
+LevelTold p kind level finds q (Ok row) =
+    (first_open_by p.seen.start.shape level p.number finds ≡ Some row) × (row < p.seen.start.shape.rows) × IsOpen p.seen.start.shape p.number (own_of q) kind level row
 LevelTold p kind level finds q (Err at) = (has_open_by p.seen.start.shape level p.number finds ≡ false) × IsLastLoad p finds level at
 
 -- the rows of a level were tried, up to the first open one
@@ -96,11 +102,16 @@ pub record LevelTried (p : PassView) (kind : Kind) (level : ℕ) (found : Result
   pub still : IsStill p q
   pub apart : (l : ℕ) → l ≢ level → (own_of q).found kind l ≡ (own_of p).found kind l
 
+-- at each level the list has the first row that is open by these finds
+abbrev pub AreFirstOpen : PassView → (ℕ → Finds) → List ℕ → Type 0
+AreFirstOpen p finds rows = (level : ℕ) → IsLevel p.seen.start.shape level → first_open_by p.seen.start.shape level p.number (finds level) ≡ Some (slice_index_or rows (level - 1) 0)
+
 -- .. of all levels
 abbrev pub RowsTold : PassView → Kind → (ℕ → Finds) → PassView → Result (List ℕ) Blocked → Type 0
 RowsTold p kind finds q (Ok rows) =
     (full_level_by p.seen.start.shape p.number finds ≡ None)
     × ((level : ℕ) → IsLevel p.seen.start.shape level → (slice_index_or rows (level - 1) 0 < p.seen.start.shape.rows) × IsOpen p.seen.start.shape p.number (own_of q) kind level (slice_index_or rows (level - 1) 0))
+    × AreFirstOpen p finds rows
 RowsTold p kind finds q (Err at) = (level : ℕ) × (full_level_by p.seen.start.shape p.number finds ≡ Some level) × IsLastLoad p (finds level) level at
 
 -- the levels were tried, up to the first without an open row
@@ -161,7 +172,8 @@ pub record IsRefused (p : PassView) (kind : Kind) (takings : List Taken) (at : B
   pub held : IsHeld p kind takings at.level at.row at.pass at.announced
   pub last : (earlier : List Taken) × (takings ≡ earlier ++ record { step = Scan kind at.level at.pass; number = suc at.announced } ∷ [])
 
--- what a beginning answers: the call waits at its leaf, or at some level each row is blocked, and the pass has made no call
+-- what a beginning answers: the call waits at its leaf, and keeps at each level the first row that was open by what its scans found, or at some level each row is blocked, and the pass has made no call
 abbrev pub BeginAnswers : PassView → Kind → ℕ → Begun → Type 0
-BeginAnswers p kind amount (Waiting q) = (takings : List Taken) × IsBeginning p kind amount takings q × EndsAtLeaf kind amount takings × HasBegun p kind amount q
+BeginAnswers p kind amount (Waiting q) =
+    (takings : List Taken) × (b : IsBeginning p kind amount takings q.pass) × EndsAtLeaf kind amount takings × HasBegun p kind amount q.pass × AreFirstOpen p (finds_of p kind b.words) q.rows
 BeginAnswers p kind amount (NoRow q at) = (takings : List Taken) × IsBeginning p kind amount takings q × IsRefused p kind takings at × ((own_of q).caller ≡ (own_of p).caller) × IsIdle q.seen q.number

@@ -3,6 +3,7 @@
 --     held_at course level      where the call stands at a level
 --     IsCourseOf start own course, HasChosen core pass course      the numbers are those of the pass's own, and the rows those that the call will fill
 --     Holds pass course      the pass has a call underway, which this is
+--     pending_of pass course      what the two together are known by
 --     Moved pass course stage after      the call took its next step at its level, to this stage
 use Rattle.std.specs.Prelude.{◌≡◌, ◌<◌, ◌-◌, ◌+◌, ◌*◌, ◌==◌, if◌then◌else◌, ℕ, Bool, true, false, Option, Some, None, length, set, slice_index_or}
 use Rattle.fn_model.specs.declared.Kind.{Kind}
@@ -27,7 +28,7 @@ use Rattle.fn_core.specs.After.{put_level}
 use Rattle.fn_core.specs.Calls.{state_in, IsLegal, HasCall, told_by}
 use Rattle.fn_table.specs.Seen.{PassView, Stepped, own_of}
 use Rattle.fn_climb.specs.declared.course.Course.{Course}
-use Rattle.fn_climb.specs.Next.{IsNext}
+use Rattle.fn_climb.specs.Next.{PendingView, IsNext}
 
 -- where a pass stands whose call has climbed to a level, and may have loaded a word there
 abbrev pub position_by : Kind → ℕ → Option ℕ → Position
@@ -110,10 +111,14 @@ pub record Holds (p : PassView) (c : Course) : Type 0 where
   pub course : IsCourseOf p.seen.start (own_of p) c
   pub chosen : HasChosen p c
 
+-- what a pass and its call in memory are known by
+abbrev pub pending_of : PassView → Course → PendingView
+pending_of p c = record { pass = p; rows = c.rows }
+
 -- The call took its next step, by which it goes on to this stage at its level, and which leaves it going
 pub record Moved (p : PassView) (c : Course) (g : Stage) (q : PassView) : Type 0 where
   pub step : Move
-  pub next : IsNext p step
+  pub next : IsNext (pending_of p c) step
   pub number : ℕ
   pub stepped : Stepped p step number q
   pub caller : (own_of q).caller ≡ (own_of p).caller

@@ -1,8 +1,8 @@
 -- What the steps of a call tell.
---     StepAnswers pass answer      what a step answers
+--     StepAnswers pending answer      what a step answers
 --     Replied pass reply      what holds of a reply besides
---     Went pass told after      the pass took the next step of its call, which told this
---     Advanced pass told after course      .. and its course has kept up
+--     Went pending told after      the pass took the next step of its call, which told this
+--     Advanced pending told after course      .. and its course has kept up
 use Rattle.std.specs.Prelude.{◌≡◌, ◌+◌, ◌<◌, ◌≤◌, ℕ, List, Some, length, sum}
 use mathlib.Core.List.{IsPrefix}
 use Rattle.fn_core.specs.declared.Move.{Move}
@@ -15,7 +15,7 @@ use Rattle.fn_table.specs.Seen.{PassView, Stepped, own_of, with_log}
 use Rattle.fn_table.specs.Later.{IsLater}
 use Rattle.fn_climb.specs.declared.course.Course.{Course}
 use Rattle.fn_climb.specs.Course.{Holds}
-use Rattle.fn_climb.specs.Next.{IsNext}
+use Rattle.fn_climb.specs.Next.{PendingView, IsNext}
 use Rattle.fn_climb.specs.declared.pending.Step.{Step}
 use Rattle.fn_climb.specs.declared.pending.Step.TheVariants.{Going, Ready, NotYet}
 
@@ -38,31 +38,31 @@ HasReplied q (told.Ready reply) = Replied q reply
 HasReplied q _ = Unit {0}
 
 -- The pass, whose call was underway with few steps left, took the next one, which told this. That is so
-pub record Went (p : PassView) (told : CoreStep) (q : PassView) : Type 0 where
+pub record Went (p : PendingView) (told : CoreStep) (q : PassView) : Type 0 where
   pub inside : p.number < p.seen.start.shape.passes
   pub call : HasCall p.seen p.number
   pub step : Move
   pub next : IsNext p step
   pub number : ℕ
-  pub stepped : Stepped p step number q
-  pub later : IsLater p q
-  pub tells : told ≡ step_answer p.seen.start (state_in (with_log p stepped.before)) p.number
+  pub stepped : Stepped p.pass step number q
+  pub later : IsLater p.pass q
+  pub tells : told ≡ step_answer p.seen.start (state_in (with_log p.pass stepped.before)) p.number
   pub follows : Follows p.seen q.seen p.number told
   pub replied : HasReplied q told
   pub few : HasFewLeft p.seen p.number
-  pub same : HasSameCall p q
+  pub same : HasSameCall p.pass q
 
--- what a step answers
-abbrev pub StepAnswers : PassView → Step → Type 0
-StepAnswers p (Going q) = Went p told.Going q
+-- what a step answers; a call that hasn't ended keeps its rows
+abbrev pub StepAnswers : PendingView → Step → Type 0
+StepAnswers p (Going q) = Went p told.Going q.pass × (q.rows ≡ p.rows)
 StepAnswers p (Ready q reply) = Went p (told.Ready reply) q
-StepAnswers p (NotYet q why) = Went p (told.NotYet why) q
+StepAnswers p (NotYet q why) = Went p (told.NotYet why) q.pass × (q.rows ≡ p.rows)
 
--- a call that hasn't ended is underway still, and this is how far it has come
-abbrev pub HoldsStill : CoreStep → PassView → Course → Type 0
-HoldsStill (told.Ready reply) q c = Unit {0}
-HoldsStill _ q c = Holds q c
+-- a call that hasn't ended is underway still, this is how far it has come, and it keeps its rows
+abbrev pub HoldsStill : PendingView → CoreStep → PassView → Course → Type 0
+HoldsStill p (told.Ready reply) q c = Unit {0}
+HoldsStill p _ q c = Holds q c × (c.rows ≡ p.rows)
 
 -- the pass took the next step of its call, which told this, and its course has kept up
-abbrev pub Advanced : PassView → CoreStep → PassView → Course → Type 0
-Advanced p told q c = Went p told q × HoldsStill told q c
+abbrev pub Advanced : PendingView → CoreStep → PassView → Course → Type 0
+Advanced p told q c = Went p told q × HoldsStill p told q c

@@ -6,7 +6,7 @@ ghost use Rattle.fn_core.specs.Machine.{IsChange, MaySpend};
 ghost use Rattle.fn_core.specs.Calls.{state_in, IsIdle};
 ghost use Rattle.fn_table.specs.Seen.{IsOf, own_of};
 ghost use Rattle.fn_climb.specs.declared.beginning.Begun.TheVariants as begun;
-ghost use Rattle.fn_climb.specs.Course.{Holds};
+ghost use Rattle.fn_climb.specs.Course.{Holds, pending_of};
 ghost use Rattle.fn_climb.specs.Begin.{AreOpen, Arrived, BeginAnswers, RowTried, LevelTried, RowsTried};
 
 use crate::course::Course;
@@ -52,7 +52,7 @@ pub fn begin_on(
     requires idle { IsIdle pass.old.seen pass.old.number }
     requires change { IsChange kind }
     requires amount { MaySpend (state_in pass.old.seen) pass.old.number amount }
-    ensures begun { IfOk result (λ course. BeginAnswers pass.old kind amount (begun.Waiting pass.new) × Holds pass.new course) }
+    ensures begun { IfOk result (λ course. BeginAnswers pass.old kind amount (begun.Waiting (pending_of pass.new course)) × Holds pass.new course) }
     ensures refused { IfErr result (λ at. BeginAnswers pass.old kind amount (begun.NoRow pass.new at)) }
 {
     match find_rows(table, pass, kind) {
@@ -77,6 +77,7 @@ fn arrive_at_leaf(
     requires open_rows { AreOpen pass.old kind rows }
     ensures arrived { Arrived pass.old kind amount pass.new }
     ensures holds { Holds pass.new result }
+    ensures rows { result.rows ≡ rows }
 {
     let _number = pass.number();
     let seen = see(table, pass, kind, 1);

@@ -8,7 +8,7 @@ use fn_core::{CoreStep, Why};
 use fn_table::{FunnelTable, Pass};
 use std::marker::Model;
 
-/// A pass with a call that has arrived at its leaf and hasn't ended. Contracts see the pass.
+/// A pass with a call that has arrived at its leaf and hasn't ended. Contracts see the pass, and the rows that the call's beginning found open.
 #[derive(Drop)]
 pub struct Pending {
     pub(crate) pass: Pass,
@@ -16,12 +16,12 @@ pub struct Pending {
 }
 
 impl Model for Pending {
-    ghost use Rattle.fn_table.specs.Seen.{PassView};
-    ghost use Rattle.fn_climb.specs.Course.{Holds};
+    ghost use Rattle.fn_climb.specs.Next.{PendingView};
+    ghost use Rattle.fn_climb.specs.Course.{Holds, pending_of};
 
-    ghost Value = { PassView };
+    ghost Value = { PendingView };
 
-    ghost view = { λ p. p.pass };
+    ghost view = { λ p. pending_of p.pass p.course };
 
     ghost invariant = { λ p. Holds p.pass p.course };
 }
@@ -38,7 +38,7 @@ pub enum Step {
 impl Pending {
     /// Takes the next step of the call, exactly one.
     pub fn step(self, table: &FunnelTable) -> Step
-        requires together { IsOf table.now self }
+        requires together { IsOf table.now self.pass }
         ensures { StepAnswers self result }
     {
         let Pending {

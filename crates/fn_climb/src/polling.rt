@@ -1,6 +1,6 @@
 //! The steps of a call up to an answer.
 ghost use Rattle.fn_table.specs.Seen.{IsOf};
-ghost use Rattle.fn_climb.specs.Course.{Holds};
+ghost use Rattle.fn_climb.specs.Course.{Holds, pending_of};
 ghost use Rattle.fn_climb.specs.Steps.{HoldsStill};
 ghost use Rattle.fn_climb.specs.Turns.{Polled, PollAnswers};
 
@@ -23,7 +23,7 @@ impl Pending {
     /// Takes steps of the call up to the first that ends it or tells it to wait.
     #[inline(always)]
     pub fn poll(self, table: &FunnelTable) -> Turn
-        requires together { IsOf table.now self }
+        requires together { IsOf table.now self.pass }
         ensures { PollAnswers self result }
     {
         let Pending {
@@ -43,8 +43,8 @@ impl Pending {
 pub fn poll_on(table: &FunnelTable, pass: &mut Pass, course: &mut Course) -> CoreStep
     requires together { IsOf table.now pass.old }
     requires holds { Holds pass.old course.old }
-    ensures polled { Polled pass.old result pass.new }
-    ensures holds { HoldsStill result pass.new course.new }
+    ensures polled { Polled (pending_of pass.old course.old) result pass.new }
+    ensures holds { HoldsStill (pending_of pass.old course.old) result pass.new course.new }
 {
     loop {
         match advance(table, pass, course) {

@@ -3,7 +3,7 @@ ghost use Rattle.std.specs.Prelude.{◌≡◌, List, None};
 ghost use Rattle.fn_core.specs.declared.Move.{Move as Moves};
 ghost use Rattle.fn_rows.specs.declared.Stage.TheVariants as stage;
 ghost use Rattle.fn_table.specs.Seen.{IsOf};
-ghost use Rattle.fn_climb.specs.Course.{held_at, Holds};
+ghost use Rattle.fn_climb.specs.Course.{held_at, Holds, pending_of};
 ghost use Rattle.fn_climb.specs.Turns.{GoesOn};
 
 use crate::course::Course;
@@ -16,8 +16,9 @@ use fn_table::{FunnelTable, Pass, fill, head, point, publish};
 pub fn publish_based(table: &FunnelTable, pass: &mut Pass, course: &mut Course)
     requires together { IsOf table.now pass.old }
     requires holds { Holds pass.old course.old }
-    ensures steps { (steps : List Moves) × GoesOn pass.old steps pass.new }
+    ensures steps { (steps : List Moves) × GoesOn (pending_of pass.old course.old) steps pass.new }
     ensures holds { Holds pass.new course.new }
+    ensures rows { course.new.rows ≡ course.old.rows }
 {
     if course.word.is_none() {
         match course.held_at(course.level) {
@@ -41,8 +42,9 @@ fn publish_batch(
     requires holds { Holds pass.old course.old }
     requires free { course.old.word ≡ None }
     requires based { held_at course.old course.old.level ≡ stage.Based at hi base }
-    ensures steps { (steps : List Moves) × GoesOn pass.old steps pass.new }
+    ensures steps { (steps : List Moves) × GoesOn (pending_of pass.old course.old) steps pass.new }
     ensures holds { Holds pass.new course.new }
+    ensures rows { course.new.rows ≡ course.old.rows }
 {
     let (shape, kind, level) = (table.shape(), course.kind, course.level);
     let number = pass.number();

@@ -3,7 +3,7 @@ ghost use Rattle.std.specs.Prelude.{◌≡◌, ◌==◌, ◌&&◌, None, Some, f
 ghost use Rattle.fn_model.specs.Calls.{same_kind};
 ghost use Rattle.fn_rows.specs.declared.Stage.TheVariants as stage;
 ghost use Rattle.fn_table.specs.Seen.{IsOf};
-ghost use Rattle.fn_climb.specs.Course.{held_at, IsShut, Holds};
+ghost use Rattle.fn_climb.specs.Course.{held_at, IsShut, Holds, pending_of};
 ghost use Rattle.fn_climb.specs.Steps.{Advanced};
 
 use crate::at_level::go_on;
@@ -18,7 +18,7 @@ use fn_table::{FunnelTable, Pass, apply_batch, exchange, leave, load_try, look, 
 pub fn advance(table: &FunnelTable, pass: &mut Pass, course: &mut Course) -> CoreStep
     requires together { IsOf table.now pass.old }
     requires holds { Holds pass.old course.old }
-    ensures { Advanced pass.old result pass.new course.new }
+    ensures { Advanced (pending_of pass.old course.old) result pass.new course.new }
 {
     match course.word {
         Some(word) => decide(table, pass, course, word),
@@ -31,7 +31,7 @@ fn climb(table: &FunnelTable, pass: &mut Pass, course: &mut Course) -> CoreStep
     requires together { IsOf table.now pass.old }
     requires holds { Holds pass.old course.old }
     requires free { course.old.word ≡ None }
-    ensures { Advanced pass.old result pass.new course.new }
+    ensures { Advanced (pending_of pass.old course.old) result pass.new course.new }
 {
     let stage = course.held_at(course.level);
     match stage {
@@ -52,7 +52,7 @@ fn look_at(table: &FunnelTable, pass: &mut Pass, course: &mut Course, at: u64) -
     requires holds { Holds pass.old course.old }
     requires free { course.old.word ≡ None }
     requires waits { held_at course.old course.old.level ≡ stage.Waiting at }
-    ensures { Advanced pass.old result pass.new course.new }
+    ensures { Advanced (pending_of pass.old course.old) result pass.new course.new }
 {
     let done = look(table, pass, course.kind, course.level);
     if done < at {
@@ -72,7 +72,7 @@ fn go_up(table: &FunnelTable, pass: &mut Pass, course: &mut Course) -> CoreStep
     requires holds { Holds pass.old course.old }
     requires free { course.old.word ≡ None }
     requires shut { IsShut course.old }
-    ensures { Advanced pass.old result pass.new course.new }
+    ensures { Advanced (pending_of pass.old course.old) result pass.new course.new }
 {
     if course.level < table.shape().levels() {
         let level = course.level + 1;
@@ -100,7 +100,7 @@ fn apply(table: &FunnelTable, pass: &mut Pass, course: &mut Course) -> CoreStep
     requires top { course.old.level ≡ pass.old.seen.start.shape.levels }
     requires adds { course.old.kind ≡ Kind.Add }
     requires uncapped { pass.old.seen.start.cap ≡ NO_CAP }
-    ensures { Advanced pass.old result pass.new course.new }
+    ensures { Advanced (pending_of pass.old course.old) result pass.new course.new }
 {
     let base = apply_batch(table, pass, course.weight_at(course.level));
     course.take_base(course.level, base);
@@ -115,7 +115,7 @@ fn load(table: &FunnelTable, pass: &mut Pass, course: &mut Course) -> CoreStep
     requires shut { IsShut course.old }
     requires top { course.old.level ≡ pass.old.seen.start.shape.levels }
     requires tries { (same_kind course.old.kind Kind.Add && (pass.old.seen.start.cap == NO_CAP)) ≡ false }
-    ensures { Advanced pass.old result pass.new course.new }
+    ensures { Advanced (pending_of pass.old course.old) result pass.new course.new }
 {
     course.word = Some(load_try(table, pass));
     CoreStep::Going
@@ -126,7 +126,7 @@ fn decide(table: &FunnelTable, pass: &mut Pass, course: &mut Course, word: u64) 
     requires together { IsOf table.now pass.old }
     requires holds { Holds pass.old course.old }
     requires loaded { course.old.word ≡ Some word }
-    ensures { Advanced pass.old result pass.new course.new }
+    ensures { Advanced (pending_of pass.old course.old) result pass.new course.new }
 {
     let (kind, level) = (course.kind, course.level);
     let weight = course.weight_at(level);
@@ -157,7 +157,7 @@ fn come_down(
     requires holds { Holds pass.old course.old }
     requires free { course.old.word ≡ None }
     requires got { held_at course.old course.old.level ≡ stage.Got base ahead }
-    ensures { Advanced pass.old result pass.new course.new }
+    ensures { Advanced (pending_of pass.old course.old) result pass.new course.new }
 {
     let (kind, level) = (course.kind, course.level);
     let reply = after_capped(table.cap(), base, kind, ahead);

@@ -15,7 +15,7 @@ fn start(table: &FunnelTable, pass: Pass, kind: Kind, amount: u64) -> Option<Pen
     requires together { IsOf table.now pass }
     requires idle { IsIdle pass.seen pass.number }
     requires change { IsChange kind }
-    ensures { IfSome result (λ p. IsOf table.now p) }
+    ensures { IfSome result (λ p. IsOf table.now p.pass) }
 {
     if amount < 1 || pass.allowance() < amount {
         return None;
@@ -44,8 +44,8 @@ fn refused(table: &FunnelTable, pass: Pass, kind: Kind, amount: u64) -> Option<(
 
 // A step that leaves the call going.
 fn goes(table: &FunnelTable, pending: Pending) -> Option<Pending>
-    requires { IsOf table.now pending }
-    ensures { IfSome result (λ p. IsOf table.now p) }
+    requires { IsOf table.now pending.pass }
+    ensures { IfSome result (λ p. IsOf table.now p.pass) }
 {
     match pending.step(table) {
         Step::Going(pending) => Some(pending),
@@ -55,8 +55,8 @@ fn goes(table: &FunnelTable, pending: Pending) -> Option<Pending>
 
 // So many of them.
 fn goes_on(table: &FunnelTable, mut pending: Pending, times: u32) -> Option<Pending>
-    requires { IsOf table.now pending }
-    ensures { IfSome result (λ p. IsOf table.now p) }
+    requires { IsOf table.now pending.pass }
+    ensures { IfSome result (λ p. IsOf table.now p.pass) }
 {
     for _ in 0..times {
         pending = goes(table, pending)?;
@@ -66,8 +66,8 @@ fn goes_on(table: &FunnelTable, mut pending: Pending, times: u32) -> Option<Pend
 
 // A step that tells the call to wait.
 fn halts(table: &FunnelTable, pending: Pending) -> Option<(Pending, Why)>
-    requires { IsOf table.now pending }
-    ensures { IfSome result (λ r. IsOf table.now r.0) }
+    requires { IsOf table.now pending.pass }
+    ensures { IfSome result (λ r. IsOf table.now r.0.pass) }
 {
     match pending.step(table) {
         Step::NotYet(pending, why) => Some((pending, why)),
@@ -77,7 +77,7 @@ fn halts(table: &FunnelTable, pending: Pending) -> Option<(Pending, Why)>
 
 // A poll that ends the call.
 fn replies(table: &FunnelTable, pending: Pending) -> Option<(Pass, u64)>
-    requires { IsOf table.now pending }
+    requires { IsOf table.now pending.pass }
     ensures { IfSome result (λ r. IsOf table.now r.0 × IsIdle r.0.seen r.0.number) }
 {
     match pending.poll(table) {
@@ -88,8 +88,8 @@ fn replies(table: &FunnelTable, pending: Pending) -> Option<(Pass, u64)>
 
 // A poll that tells the call to wait.
 fn waits(table: &FunnelTable, pending: Pending) -> Option<(Pending, Why)>
-    requires { IsOf table.now pending }
-    ensures { IfSome result (λ r. IsOf table.now r.0) }
+    requires { IsOf table.now pending.pass }
+    ensures { IfSome result (λ r. IsOf table.now r.0.pass) }
 {
     match pending.poll(table) {
         Turn::NotYet(pending, why) => Some((pending, why)),
@@ -156,7 +156,7 @@ fn adds_past(table: &FunnelTable, mut pass: Pass) -> bool
 // A subtraction whose exchange comes next, and another pass.
 fn up_to_exchange(table: &FunnelTable, mut passes: Vec<Pass>) -> Option<(Pending, Pass)>
     requires { AreOpened table.now passes.items }
-    ensures call { IfSome result (λ r. IsOf table.now r.0) }
+    ensures call { IfSome result (λ r. IsOf table.now r.0.pass) }
     ensures other { IfSome result (λ r. IsOf table.now r.1 × IsIdle r.1.seen r.1.number) }
 {
     let second = last_of(table, &mut passes)?;
@@ -192,7 +192,7 @@ fn adds_one(table: &FunnelTable, pass: Pass) -> Option<(Pass, u64)>
 
 // A pass makes two additions of 1 while another stalls, and then finds no row: what they met, and the load that names the last row.
 fn runs_out(table: &FunnelTable, first: Pending) -> Option<(Pass, (u64, u64), Blocked)>
-    requires { IsOf table.now first }
+    requires { IsOf table.now first.pass }
     ensures { IfSome result (λ r. IsOf table.now r.0 × IsIdle r.0.seen r.0.number) }
 {
     let (pass, one) = replies(table, first)?;
@@ -226,7 +226,7 @@ fn start_two(
     requires idle { All IsWhole passes.old.items }
     ensures together { All (λ p. IsOf table.now p) passes.new.items }
     ensures idle { All IsWhole passes.new.items }
-    ensures calls { IfSome result (λ r. IsOf table.now r.0 × IsOf table.now r.1) }
+    ensures calls { IfSome result (λ r. IsOf table.now r.0.pass × IsOf table.now r.1.pass) }
 {
     let second = last_of(table, passes)?;
     let first = last_of(table, passes)?;
@@ -237,7 +237,7 @@ fn start_two(
 
 // What two calls met, polled one after the other.
 fn both_reply(table: &FunnelTable, first: Pending, second: Pending) -> Option<(u64, u64)>
-    requires { IsOf table.now first × IsOf table.now second }
+    requires { IsOf table.now first.pass × IsOf table.now second.pass }
 {
     let (_, one) = replies(table, first)?;
     let (_, two) = replies(table, second)?;
@@ -259,8 +259,8 @@ fn two_levels(table: &FunnelTable, mut passes: Vec<Pass>) -> Option<((u64, u64),
 
 // A step of a call, if it hasn't ended, and its reply once it has.
 fn takes_a_step(table: &FunnelTable, call: Option<Pending>, reply: u64) -> (Option<Pending>, u64)
-    requires { IfSome call (λ p. IsOf table.now p) }
-    ensures { IfSome result.0 (λ p. IsOf table.now p) }
+    requires { IfSome call (λ p. IsOf table.now p.pass) }
+    ensures { IfSome result.0 (λ p. IsOf table.now p.pass) }
 {
     let Some(pending) = call else {
         return (None, reply);
@@ -274,8 +274,8 @@ fn takes_a_step(table: &FunnelTable, call: Option<Pending>, reply: u64) -> (Opti
 
 // So many of them.
 fn takes_steps(table: &FunnelTable, pending: Pending, times: u32) -> (Option<Pending>, u64)
-    requires { IsOf table.now pending }
-    ensures { IfSome result.0 (λ p. IsOf table.now p) }
+    requires { IsOf table.now pending.pass }
+    ensures { IfSome result.0 (λ p. IsOf table.now p.pass) }
 {
     let mut call = (Some(pending), 0);
     for _ in 0..times {
@@ -286,8 +286,8 @@ fn takes_steps(table: &FunnelTable, pending: Pending, times: u32) -> (Option<Pen
 
 // A poll of it.
 fn takes_a_poll(table: &FunnelTable, call: Option<Pending>, reply: u64) -> (Option<Pending>, u64)
-    requires { IfSome call (λ p. IsOf table.now p) }
-    ensures { IfSome result.0 (λ p. IsOf table.now p) }
+    requires { IfSome call (λ p. IsOf table.now p.pass) }
+    ensures { IfSome result.0 (λ p. IsOf table.now p.pass) }
 {
     let Some(pending) = call else {
         return (None, reply);
@@ -304,7 +304,7 @@ fn polled_in_turn(
     first: (Option<Pending>, u64),
     second: (Option<Pending>, u64),
 ) -> Option<(u64, u64)>
-    requires { IfSome first.0 (λ p. IsOf table.now p) × IfSome second.0 (λ p. IsOf table.now p) }
+    requires { IfSome first.0 (λ p. IsOf table.now p.pass) × IfSome second.0 (λ p. IsOf table.now p.pass) }
 {
     let (mut first, mut second) = (first, second);
     for _ in 0..3 {

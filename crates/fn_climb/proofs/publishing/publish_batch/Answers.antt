@@ -112,3 +112,6 @@ returns-clause-holds c =
     let row : c.row_of-row.result ≡ row_number c.args.pass.now.seen.start.shape c.args.pass.now.number c.args.course.now.kind c.args.course.now.level (slice_index_or c.args.course.now.rows (c.args.course.now.level - 1) 0) = c.row_of-row.ensures.exact ∙ ap (λ (z : Shape × ℕ). row_number z.0 z.1 c.args.course.now.kind c.args.course.now.level (slice_index_or c.args.course.now.rows (c.args.course.now.level - 1) 0)) (λ i. (shape i, c.number-number.ensures.number i)) in
     let few = based_few c.args.pass.now c.args.course.now c.requires.holds c.requires.free c.args.at c.args.hi c.args.base c.requires.based in
     subst (λ (x : Course). Holds c.publish.new.pass x) (sym c.go_to.ensures) (batch_holds c.args.pass.now c.args.course.now c.requires.holds c.requires.free c.head-last.result c.head-last.new.pass c.head-last.ensures c.args.at c.args.hi c.args.base c.requires.based c.row_of-row.result row few c.fill.ensures.0 c.fill.new.pass c.fill.ensures.1 c.fill-2.ensures.0 c.fill-2.new.pass c.fill-2.ensures.1 c.fill-3.ensures.0 c.fill-3.new.pass c.fill-3.ensures.1 c.point.ensures.0 c.point.new.pass c.point.ensures.1 c.publish.ensures.0 c.publish.new.pass c.publish.ensures.1)
+
+pub returns-clause-rows : goal.returns-clause-rows
+returns-clause-rows c = ap (λ (x : Course). x.rows) c.go_to.ensures

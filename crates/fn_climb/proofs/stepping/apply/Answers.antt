@@ -3,6 +3,7 @@ use Rattle.fn_core.specs.declared.Move.TheVariants.{Apply}
 use Rattle.fn_core.specs.declared.answer.CoreStep.TheVariants.{Going}
 use Rattle.fn_table.specs.Seen.{May, PassView, Stepped}
 use Rattle.fn_climb.specs.declared.course.Course.{Course}
+use Rattle.fn_climb.specs.Course.{pending_of}
 use Rattle.fn_climb.specs.Steps.{Advanced}
 use Rattle.fn_climb.proofs.Moves.{level_low, level_high}
 use Rattle.fn_climb.proofs.Tops.{may_apply, applied}
@@ -27,6 +28,6 @@ pub returns : goal.returns
 returns c =
     let now : PassView = c.args.pass.now in
     let next : PassView = c.apply_batch-base.new.pass in
-    subst (λ (x : Course). Advanced now Going next x) (sym c.take_base.ensures)
+    subst (λ (x : Course). Advanced (pending_of now c.args.course.now) Going next x) (sym c.take_base.ensures)
     (applied now c.args.course.now c.requires.holds c.requires.free c.requires.shut.0 c.requires.shut.1 c.requires.shut.2 c.requires.top c.requires.adds c.requires.uncapped c.apply_batch-base.result next
     (subst (λ (w : ℕ). Stepped now (Apply w) c.apply_batch-base.result next) c.weight_at.ensures c.apply_batch-base.ensures))

@@ -1,6 +1,7 @@
 use Rattle.std.proofs.Common.{sym, ap, ◌∙◌, subst}
 use Rattle.fn_core.specs.declared.answer.CoreStep.TheVariants.{Going}
 use Rattle.fn_climb.specs.declared.course.Course.{Course}
+use Rattle.fn_climb.specs.Course.{pending_of}
 use Rattle.fn_climb.specs.Steps.{Advanced}
 use Rattle.fn_climb.proofs.Underway.{climbs, held_is}
 use Rattle.fn_climb.proofs.Moves.{level_low, level_high}
@@ -27,7 +28,7 @@ go_to-requires-clause-high c = level_high c.args.pass.now c.args.course.now c.re
 
 pub returns-in_default : goal.returns-in_default
 returns-in_default c =
-    subst (λ (x : Course). Advanced c.args.pass.now Going c.go_on-next.new.pass x) (sym c.go_to.ensures)
+    subst (λ (x : Course). Advanced (pending_of c.args.pass.now c.args.course.now) Going c.go_on-next.new.pass x) (sym c.go_to.ensures)
     (moved c.args.pass.now c.args.course.now c.requires.holds c.requires.free c.go_on-next.result c.go_on-next.new.pass c.go_on-next.ensures)
 
 pub go_up-requires-clause-shut : goal.go_up-requires-clause-shut

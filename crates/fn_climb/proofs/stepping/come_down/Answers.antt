@@ -6,7 +6,7 @@ use Rattle.fn_core.specs.declared.answer.CoreStep.TheVariants.{Going, Ready}
 use Rattle.fn_table.specs.Seen.{PassView}
 use Rattle.fn_core.specs.After.{based_stage}
 use Rattle.fn_climb.specs.declared.course.Course.{Course}
-use Rattle.fn_climb.specs.Course.{at_stage, held_at}
+use Rattle.fn_climb.specs.Course.{at_stage, held_at, pending_of}
 use Rattle.fn_climb.specs.Steps.{Advanced, Went}
 use Rattle.fn_climb.proofs.Underway.{may_at_stage}
 use Rattle.fn_climb.proofs.Moves.{level_low, level_high}
@@ -35,7 +35,7 @@ pub returns-then-level-eq1 : goal.returns-then-level-eq1
 returns-then-level-eq1 c =
     let cap = c.cap.ensures ∙ sym (ap (λ (b : Start). b.cap) c.requires.together.1) in
     let reply = c.after_capped-reply.ensures ∙ ap (λ (x : ℕ). after x c.args.base c.args.course.now.kind c.args.ahead) cap in
-    (subst (λ (r : ℕ). Went c.args.pass.now (Ready r) c.leave.new.pass) (sym reply) (left_leaf c.args.pass.now c.args.course.now c.requires.holds c.requires.free c.args.base c.args.ahead c.requires.got c.leave.ensures.0 c.leave.new.pass c.leave.ensures.1 c.if-level-eq1.true), tt)
+    (subst (λ (r : ℕ). Went (pending_of c.args.pass.now c.args.course.now) (Ready r) c.leave.new.pass) (sym reply) (left_leaf c.args.pass.now c.args.course.now c.requires.holds c.requires.free c.args.base c.args.ahead c.requires.got c.leave.ensures.0 c.leave.new.pass c.leave.ensures.1 c.if-level-eq1.true), tt)
 
 pub returns : goal.returns
 returns c =
@@ -54,5 +54,5 @@ returns c =
     ∙ (λ i. based_stage (reply i) (held_lower now course c.requires.holds c.requires.free c.args.base c.args.ahead c.requires.got c.leave.ensures.0 next c.leave.ensures.1 below up some_low i)) in
     let to = c.take_base.ensures ∙ ap (λ (x : Course). at_stage x below (based_stage c.after_capped-reply.result (held_at c.go_to.new.self below))) c.go_to.ensures
     ∙ ap (at_stage (at_stage course course.level Out) below) lower in
-    subst (λ (x : Course). Advanced now Going next x) (sym to)
+    subst (λ (x : Course). Advanced (pending_of now c.args.course.now) Going next x) (sym to)
     (left_down now course c.requires.holds c.requires.free c.args.base c.args.ahead c.requires.got c.leave.ensures.0 next c.leave.ensures.1 below up some_low)

@@ -5,6 +5,7 @@ use Rattle.fn_table.specs.Seen.{May, Stepped, HasLoaded}
 use Rattle.fn_core.specs.declared.answer.CoreStep.TheVariants.{Going, NotYet}
 use Rattle.fn_core.specs.declared.answer.Why.TheVariants.{Lost}
 use Rattle.fn_climb.specs.declared.course.Course.{Course}
+use Rattle.fn_climb.specs.Course.{pending_of}
 use Rattle.fn_climb.specs.Steps.{Advanced}
 use Rattle.fn_climb.proofs.Underway.{may_exchange, deciding_at}
 use Rattle.fn_climb.proofs.Moves.{level_low, level_high}
@@ -32,10 +33,10 @@ exchange-requires-clause-loaded c = subst (λ (x : Position). HasLoaded c.args.w
 
 pub returns-in-Ok : goal.returns-in-Ok
 returns-in-Ok c =
-    subst (λ (x : Course). Advanced c.args.pass.now Going c.exchange.new.pass x) (sym c.take_base.ensures)
+    subst (λ (x : Course). Advanced (pending_of c.args.pass.now c.args.course.now) Going c.exchange.new.pass x) (sym c.take_base.ensures)
     (exchange_won c.args.pass.now c.args.course.now c.requires.holds c.args.word c.requires.loaded c.args.word c.exchange.new.pass (subst (λ (w : ℕ). Stepped c.args.pass.now (Exchange c.args.course.now.kind w) c.args.word c.exchange.new.pass) c.weight_at-weight.ensures c.in-Ok.ensures.step) refl)
 
 pub returns-in-Err : goal.returns-in-Err
 returns-in-Err c =
-    subst (λ (x : Course). Advanced c.args.pass.now (NotYet (Lost c.args.word c.in-Err.found)) c.exchange.new.pass x) (free_again c.args.course.now)
+    subst (λ (x : Course). Advanced (pending_of c.args.pass.now c.args.course.now) (NotYet (Lost c.args.word c.in-Err.found)) c.exchange.new.pass x) (free_again c.args.course.now)
     (exchange_lost c.args.pass.now c.args.course.now c.requires.holds c.args.word c.requires.loaded c.in-Err.found c.exchange.new.pass (subst (λ (w : ℕ). Stepped c.args.pass.now (Exchange c.args.course.now.kind w) c.in-Err.found c.exchange.new.pass) c.weight_at-weight.ensures c.in-Err.ensures.step) c.in-Err.ensures.lost)

@@ -1,6 +1,7 @@
 use Rattle.std.proofs.Common.{◌≡◌, suc, ◌+◌, sym, subst, arith}
 use Rattle.fn_core.specs.declared.answer.CoreStep.TheVariants.{Going}
 use Rattle.fn_climb.specs.declared.course.Course.{Course}
+use Rattle.fn_climb.specs.Course.{pending_of}
 use Rattle.fn_climb.specs.Steps.{Advanced}
 use Rattle.fn_climb.proofs.Tops.{may_see, saw_above, below_top, top_at, not_added}
 use Rattle.fn_climb.proofs.stepping.go_up.Goals as goal
@@ -10,7 +11,7 @@ see-seen-requires-clause-may c = may_see c.args.pass.now c.args.course.now c.req
 
 pub returns-then-course-levels : goal.returns-then-course-levels
 returns-then-course-levels c =
-    subst (λ (x : Course). Advanced c.args.pass.now Going c.see-seen.new.pass x) (sym c.go_to.ensures)
+    subst (λ (x : Course). Advanced (pending_of c.args.pass.now c.args.course.now) Going c.see-seen.new.pass x) (sym c.go_to.ensures)
     (saw_above c.args.pass.now c.args.course.now c.requires.holds c.requires.free c.requires.shut.0 c.requires.shut.1 c.requires.shut.2 (below_top c.args.pass.now c.args.course.now c.args.table.now c.shape.result c.levels.result c.requires.together c.shape.ensures c.levels.ensures c.if-course-levels.true) (c.args.course.now.level + 1) (let e : c.args.course.now.level + 1 ≡ suc c.args.course.now.level = omega arith in e) c.see-seen.result c.see-seen.new.pass c.see-seen.ensures)
 
 pub apply-requires-clause-top : goal.apply-requires-clause-top
