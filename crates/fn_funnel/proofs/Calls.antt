@@ -9,6 +9,7 @@ use Rattle.fn_core.specs.Calls.{CoreLog, IsLegal, IsIdle}
 use Rattle.fn_core.proofs.Entered.{entries_stay}
 use Rattle.fn_core.specs.Entries.{IsAlone}
 use Rattle.fn_table.specs.Seen.{PassView}
+use Rattle.fn_climb.specs.Next.{PendingView}
 use Rattle.fn_climb.specs.Begin.{BeginAnswers}
 use Rattle.fn_table.specs.Later.{IsLater}
 use Rattle.fn_climb.specs.declared.beginning.Begun.TheVariants.{Waiting, NoRow}
@@ -24,19 +25,19 @@ use Rattle.fn_climb.proofs.Funnelled.{funnelled, batched}
 use Rattle.fn_funnel.proofs.Straight.{later_straight, none_since, same_call}
 
 module _ (p : PassView) (kind : Kind) (amount reply : ℕ) (q : PassView) (legal : IsLegal p.seen) (idle : IsIdle p.seen p.number) where
-  pub waited_through : (b : PassView) → BeginAnswers p kind amount (Waiting b) → IsAnswered b reply q → Waited p kind amount (record { before = reply; way = Funnel }) q
+  pub waited_through : (b : PendingView) → BeginAnswers p kind amount (Waiting b) → IsAnswered b reply q → Waited p kind amount (record { before = reply; way = Funnel }) q
   waited_through b begins answered =
       let first = begins.1.later in
       let polls = polls_keep b answered.whys answered.until first.legal answered.in_vain in
-      let until = later_on p b answered.until first polls.0 in
-      let later = later_on p answered.until q until answered.polled.later in
-      let called = funnelled p b answered.until q kind amount reply legal idle until begins.3 polls.1 answered.polled in
+      let until = later_on p b.pass answered.until.pass first polls.0 in
+      let later = later_on p answered.until.pass q until answered.polled.later in
+      let called = funnelled p b.pass answered.until q kind amount reply legal idle until begins.3 polls.1 answered.polled in
       record {
         later = later;
         called = called;
         within = within p kind amount reply q later called;
         way = record { begun = b; begins = begins; answered = answered };
-        entered = batched p b q kind amount reply begins.3 (later_on b answered.until q polls.0 answered.polled.later) called.met;
+        entered = batched p b.pass q kind amount reply begins.3 (later_on b.pass answered.until.pass q polls.0 answered.polled.later) called.met;
       }
 
   pub waited_straight : p.number < p.seen.start.shape.passes → (r : PassView) (at : Blocked) → BeginAnswers p kind amount (NoRow r at) → IsStraight (is_one_step kind r.seen.start.cap) r kind amount reply q → HasCalled r kind amount reply q → IsAlone q.seen (call_of r kind amount) → Waited p kind amount (record { before = reply; way = Direct at }) q

@@ -1,6 +1,6 @@
 -- What a call tells that waits for its reply.
 --     PollsInVain, TriesInVain      a call was polled, or a direct one tried, so often without a reply
---     IsAnswered pass reply after      a call was polled until it had its reply
+--     IsAnswered pending reply after      a call was polled until it had its reply
 --     GoesThrough, GoesStraight      a call went through the funnel, or to the main word by itself
 --     GoesBy pass kind amount reply way after      in which of these ways the call went
 --     HasEntered way core call      the call has entered the main word in a batch, or by itself
@@ -13,14 +13,15 @@ use Rattle.fn_model.specs.Calls.{same_kind}
 use Rattle.fn_core.specs.declared.Move.TheVariants as step
 use Rattle.fn_core.specs.declared.answer.Blocked.{Blocked}
 use Rattle.fn_core.specs.declared.answer.Why.{Why}
-use Rattle.fn_core.specs.declared.answer.CoreStep.TheVariants.{Ready, NotYet}
+use Rattle.fn_core.specs.declared.answer.CoreStep.TheVariants.{Ready}
 use Rattle.fn_core.specs.Machine.{no_cap}
 use Rattle.fn_core.specs.Calls.{CoreLog}
 use Rattle.fn_core.specs.Entries.{IsAlone, IsBatched}
 use Rattle.fn_table.specs.Seen.{PassView, Stepped}
 use Rattle.fn_climb.specs.Begin.{BeginAnswers}
 use Rattle.fn_table.specs.Later.{IsLater}
-use Rattle.fn_climb.specs.Turns.{Polled}
+use Rattle.fn_climb.specs.Next.{PendingView}
+use Rattle.fn_climb.specs.Turns.{Polled, PolledInVain}
 use Rattle.fn_climb.specs.declared.beginning.Begun.TheVariants.{Waiting, NoRow}
 use Rattle.fn_direct.specs.declared.Lost.{Lost}
 use Rattle.fn_table.specs.Called.{call_of, HasCalled, HasMadeNone}
@@ -30,20 +31,20 @@ use Rattle.fn_funnel.specs.declared.waiting.Way.{Way}
 use Rattle.fn_funnel.specs.declared.waiting.Way.TheVariants.{Funnel, Direct}
 
 -- the pass polled its call, one poll after the other, and each told it to wait, for one of these reasons
-abbrev pub PollsInVain : PassView → List Why → PassView → Type 0
+abbrev pub PollsInVain : PendingView → List Why → PendingView → Type 0
 PollsInVain p [] q = q ≡ p
-PollsInVain p (why ∷ whys) q = (r : PassView) × Polled p (NotYet why) r × PollsInVain r whys q
+PollsInVain p (why ∷ whys) q = (r : PendingView) × PolledInVain p why r × PollsInVain r whys q
 
 -- the call was polled in vain, and then once more, which gave the reply
-pub record IsAnswered (p : PassView) (reply : ℕ) (q : PassView) : Type 0 where
+pub record IsAnswered (p : PendingView) (reply : ℕ) (q : PassView) : Type 0 where
   pub whys : List Why
-  pub until : PassView
+  pub until : PendingView
   pub in_vain : PollsInVain p whys until
   pub polled : Polled until (Ready reply) q
 
 -- The call went through the funnel: it waited at its leaf, and was polled until it had its reply
 pub record GoesThrough (p : PassView) (kind : Kind) (amount reply : ℕ) (q : PassView) : Type 0 where
-  pub begun : PassView
+  pub begun : PendingView
   pub begins : BeginAnswers p kind amount (Waiting begun)
   pub answered : IsAnswered begun reply q
 

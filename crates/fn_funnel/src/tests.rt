@@ -63,7 +63,7 @@ fn subtracts<R: Wait>(rt: &R, funnel: &Funnel, pass: Pass, amount: u64) -> Optio
 fn starts(table: &FunnelTable, pass: Pass, amount: u64) -> Option<Pending>
     requires together { IsOf table.now pass }
     requires idle { IsIdle pass.seen pass.number }
-    ensures { IfSome result (λ p. IsOf table.now p × (p.number ≡ pass.number)) }
+    ensures { IfSome result (λ p. IsOf table.now p.pass × (p.number ≡ pass.number)) }
 {
     if amount < 1 || pass.allowance() < amount {
         return None;
@@ -76,7 +76,7 @@ fn starts(table: &FunnelTable, pass: Pass, amount: u64) -> Option<Pending>
 
 // A poll that ends it.
 fn replies(table: &FunnelTable, pending: Pending) -> Option<(Pass, u64)>
-    requires { IsOf table.now pending }
+    requires { IsOf table.now pending.pass }
     ensures { IfSome result (λ r. IsOf table.now r.0 × (r.0.number ≡ pending.number) × IsIdle r.0.seen r.0.number) }
 {
     match pending.poll(table) {
@@ -87,8 +87,8 @@ fn replies(table: &FunnelTable, pending: Pending) -> Option<(Pass, u64)>
 
 // A step that loses an exchange.
 fn loses(table: &FunnelTable, pending: Pending) -> Option<(Pending, Why)>
-    requires { IsOf table.now pending }
-    ensures { IfSome result (λ r. IsOf table.now r.0) }
+    requires { IsOf table.now pending.pass }
+    ensures { IfSome result (λ r. IsOf table.now r.0.pass) }
 {
     match pending.step(table) {
         Step::NotYet(pending, why) => Some((pending, why)),
@@ -98,8 +98,8 @@ fn loses(table: &FunnelTable, pending: Pending) -> Option<(Pending, Why)>
 
 // So many steps, each of which leaves the call going.
 fn goes(table: &FunnelTable, mut pending: Pending, times: u32) -> Option<Pending>
-    requires { IsOf table.now pending }
-    ensures { IfSome result (λ p. IsOf table.now p) }
+    requires { IsOf table.now pending.pass }
+    ensures { IfSome result (λ p. IsOf table.now p.pass) }
 {
     for _ in 0..times {
         match pending.step(table) {

@@ -5,7 +5,7 @@ ghost use Rattle.fn_core.specs.Machine.{IsChange, MaySpend};
 ghost use Rattle.fn_core.specs.Calls.{state_in, IsIdle};
 ghost use Rattle.fn_core.specs.Entries.{IsAlone};
 ghost use Rattle.fn_table.specs.Seen.{IsOf};
-ghost use Rattle.fn_climb.specs.Course.{Holds};
+ghost use Rattle.fn_climb.specs.Course.{Holds, pending_of};
 ghost use Rattle.fn_table.specs.Later.{IsLater};
 ghost use Rattle.fn_table.specs.Called.{call_of, HasCalled, HasMadeNone};
 ghost use Rattle.fn_direct.specs.Tries.{Tried};
@@ -95,7 +95,7 @@ fn call<R: Wait>(
 fn await_reply<R: Wait>(rt: &R, table: &FunnelTable, pass: &mut Pass, course: Course) -> u64
     requires together { IsOf table.now pass.old }
     requires holds { Holds pass.old course }
-    ensures { IsAnswered pass.old result pass.new }
+    ensures { IsAnswered (pending_of pass.old course) result pass.new }
 {
     let backoff = Backoff::new();
     let mut course = course;
