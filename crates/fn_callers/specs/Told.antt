@@ -50,12 +50,13 @@ BeginTold old kind amount (Err why.Underway) new = HasCall old × (new ≡ old)
 BeginTold old kind amount (Err why.Spent) new = IsFree old × IsSpent old amount × (new ≡ old)
 BeginTold old kind amount (Err _) new = ⊥
 
--- The same call is underway, of the same pass, which has seen more; it has as much left
+-- The same call is underway, of the same pass, which has seen more; it has as much left, and keeps its rows
 pub record StillWaits (old new : CallerView) : Type 0 where
   pub call : new.call ≡ old.call
   pub same : (new.pass.table ≡ old.pass.table) × (new.pass.number ≡ old.pass.number) × (new.pass.seen.start ≡ old.pass.seen.start)
   pub goes_on : IsPrefix (past old.pass) (past new.pass)
   pub spent : left new.pass ≡ left old.pass
+  pub rows : new.rows ≡ old.rows
 
 -- the call that was underway, from its beginning on, is one call of its pass, which met the reply
 abbrev pub HasMade : CallerView → ℕ → CallerView → Type 0

@@ -56,7 +56,7 @@ pub enum Standing {
     Away,
 }
 
-/// A caller: a pass of a funnel, with a share of its table. Contracts see the table, the pass, and the call that is underway.
+/// A caller: a pass of a funnel, with a share of its table. Contracts see the table, the pass, the call that is underway, and the rows that it keeps.
 #[derive(Drop)]
 pub struct Caller {
     table: SharedTable,
@@ -67,11 +67,11 @@ pub struct Caller {
 impl Model for Caller {
     ghost use Rattle.std.specs.Arc.{arc_value};
     ghost use Rattle.fn_callers.specs.Callers.{CallerView};
-    ghost use Rattle.fn_callers.specs.Standing.{pass_of, call_of, StandsAt};
+    ghost use Rattle.fn_callers.specs.Standing.{pass_of, call_of, rows_of, StandsAt};
 
     ghost Value = { CallerView };
 
-    ghost view = { λ c. record { table = arc_value c.table; pass = pass_of c.first.value c.standing; call = call_of c.standing } };
+    ghost view = { λ c. record { table = arc_value c.table; pass = pass_of c.first.value c.standing; call = call_of c.standing; rows = rows_of c.standing } };
 
     ghost invariant = { λ c. StandsAt (arc_value c.table) c.standing };
 }

@@ -1,13 +1,13 @@
 //! Calls of a pass through the aggregators, from their beginning to their reply.
 ghost use Rattle.std.specs.Prelude.{◌≡◌, ◌≤◌, IfErr, IfOk};
 ghost use Rattle.fn_core.specs.declared.answer.Why.{Why};
-ghost use Rattle.fn_core.specs.declared.answer.CoreStep.TheVariants.{Ready, NotYet};
+ghost use Rattle.fn_core.specs.declared.answer.CoreStep.TheVariants.{Ready};
 ghost use Rattle.fn_core.specs.declared.answer.Blocked.{Blocked};
 ghost use Rattle.fn_core.specs.Machine.{IsChange};
 ghost use Rattle.fn_table.specs.Seen.{IsOf};
 ghost use Rattle.fn_climb.specs.Begin.{BeginAnswers};
 ghost use Rattle.fn_table.specs.Later.{IsLater};
-ghost use Rattle.fn_climb.specs.Turns.{Polled};
+ghost use Rattle.fn_climb.specs.Turns.{Polled, PolledInVain};
 ghost use Rattle.fn_climb.specs.declared.beginning.Begun.TheVariants as begun;
 ghost use Rattle.fn_table.specs.Claims.{left, Rests, Made, MadeNone};
 ghost use Rattle.fn_callers.specs.Standing.{HasCome};
@@ -25,7 +25,7 @@ pub fn begin_call(table: &FunnelTable, pass: Pass, kind: Kind, amount: u64) -> R
     requires change { IsChange kind }
     requires amount { (1 ≤ amount) × (amount ≤ left pass) }
     ensures given { IfOk result (λ w. (w.given.value ≡ pass) × (w.kind ≡ kind) × (w.amount ≡ amount)) }
-    ensures come { IfOk result (λ w. HasCome w.given.value w.kind w.amount w.pending) }
+    ensures come { IfOk result (λ w. HasCome w.given.value w.kind w.amount w.pending.pass) }
     ensures begun { IfOk result (λ w. BeginAnswers pass kind amount (begun.Waiting w.pending)) }
     ensures none { IfErr result (λ back. MadeNone pass back) }
     ensures refused { IfErr result (λ back. (at : Blocked) × BeginAnswers pass kind amount (begun.NoRow back at)) }
@@ -46,12 +46,12 @@ pub fn begin_call(table: &FunnelTable, pass: Pass, kind: Kind, amount: u64) -> R
 /// Polls a call: it has its reply, or waits still.
 pub fn poll_call(table: &FunnelTable, waiting: Waiting) -> Result<(Pass, u64), Waiting>
     requires together { IsOf table.now waiting.given.value }
-    requires come { HasCome waiting.given.value waiting.kind waiting.amount waiting.pending }
+    requires come { HasCome waiting.given.value waiting.kind waiting.amount waiting.pending.pass }
     ensures made { IfOk result (λ r. Made waiting.given.value waiting.kind waiting.amount r.1 r.0) }
     ensures ready { IfOk result (λ r. Polled waiting.pending (Ready r.1) r.0) }
     ensures given { IfErr result (λ w. (w.given.value ≡ waiting.given.value) × (w.kind ≡ waiting.kind) × (w.amount ≡ waiting.amount)) }
-    ensures come { IfErr result (λ w. HasCome waiting.given.value waiting.kind waiting.amount w.pending) }
-    ensures in_vain { IfErr result (λ w. (why : Why) × Polled waiting.pending (NotYet why) w.pending) }
+    ensures come { IfErr result (λ w. HasCome waiting.given.value waiting.kind waiting.amount w.pending.pass) }
+    ensures in_vain { IfErr result (λ w. (why : Why) × PolledInVain waiting.pending why w.pending) }
 {
     let Waiting {
         given,

@@ -20,4 +20,4 @@ returns-in-Err-clause-told c =
     let first = c.self.inside.first.value in
     let was : c.args.self.now ≡ view_of t first (Waits c.in-Waits.waiting) = stands_as t first c.self.inside.standing (Waits c.in-Waits.waiting) (sym c.replace.ensures.value ∙ c.in-Waits.is) c.args.self.now c.self.view_is in
     subst (λ (v : CallerView). PollTold v (Err why.NotYet) (view_of t first (Waits c.in-Err.waiting))) (sym was)
-    (refl, still_waits t first c.in-Waits.waiting c.in-Err.waiting (NotYet c.in-Err.ensures.in_vain.0) c.in-Err.ensures.given c.in-Err.ensures.in_vain.1)
+    (refl, still_waits t first c.in-Waits.waiting c.in-Err.waiting (NotYet c.in-Err.ensures.in_vain.0) c.in-Err.ensures.given c.in-Err.ensures.in_vain.1.0 c.in-Err.ensures.in_vain.1.1)
