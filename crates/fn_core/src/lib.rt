@@ -16,6 +16,7 @@ ghost use Rattle.fn_core.specs.After.{StepsTell, WordsAreFound};
 mod aggregator_steps;
 mod answer;
 mod begin;
+mod event_log;
 mod funnel;
 mod machine;
 mod main_steps;
