@@ -41,9 +41,9 @@ impl Core {
         ensures few { IfOk result (λ _. length (begin_moves self.old.start (state_in self.old) pass kind amount) ≤ self.old.start.shape.levels * (self.old.start.shape.passes * self.old.start.shape.rows + 3)) }
         ensures no_memory { IfErr result (λ _. self.new ≡ self.old) }
     {
-        let alloc = *self.log.allocator();
+        let alloc = *self.machine.rows.allocator();
         let (events, told) = self.machine.beginning(alloc, pass, kind, amount)?;
-        self.log.extend_from_slice(&events)?;
+        self.log.extend(&events);
         self.machine.take_all(&events);
         Ok(told)
     }

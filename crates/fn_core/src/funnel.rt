@@ -1,6 +1,6 @@
-//! A funnel as a value: its machine, and the list of its events.
+//! A funnel as a value: its machine, and the list of its events, which only contracts see.
 
-ghost use Rattle.std.specs.Prelude.{◌≡◌, ◌↔◌, ◌+◌, ◌^◌, ◌<◌, ◌≤◌, IsTrue, IfOk, IfErr, MatchResult, None, Some, length, sum};
+ghost use Rattle.std.specs.Prelude.{◌≡◌, ◌↔◌, ◌+◌, ◌^◌, ◌<◌, ◌≤◌, IsTrue, IfOk, IfErr, IsOk, MatchResult, None, Some, length, sum};
 ghost use Rattle.fn_layout.specs.Words.{IsSlot};
 ghost use Rattle.fn_model.specs.Integer.{value};
 ghost use Rattle.fn_core.specs.State.{stage};
@@ -11,6 +11,7 @@ ghost use Rattle.fn_core.specs.Calls.{state_in, calls_in, IsLegal, with_move, wi
 
 use crate::aggregator_steps::reply_of;
 use crate::answer::{Answer, CoreStep, NoMemory, OpenFault, Why};
+use crate::event_log::EventLog;
 use crate::machine::Machine;
 use crate::opening::{TOO_MUCH, aggregators, standings, total};
 use crate::{Allowances, Event, Move, Position, Purpose, Start};
@@ -24,7 +25,7 @@ use std::marker::Model;
 #[derive(Drop)]
 pub struct Core {
     pub(crate) machine: Machine,
-    pub(crate) log: Vec<Event>,
+    pub(crate) log: EventLog,
 }
 
 impl Model for Core {
@@ -34,9 +35,9 @@ impl Model for Core {
 
     ghost use Rattle.fn_core.specs.Fields.{Stands};
 
-    ghost view = { λ core. record { start = core.machine.start; log = core.log.items } };
+    ghost view = { λ core. record { start = core.machine.start; log = core.log } };
 
-    ghost invariant = { λ core. Stands core.machine core.log.items };
+    ghost invariant = { λ core. Stands core.machine core.log };
 }
 
 impl Core {
@@ -86,16 +87,16 @@ impl Core {
         self.machine.can(event)
     }
 
-    /// Lets the event happen, and gives its answer; a funnel stays as it is where memory runs out.
+    /// Lets the event happen, and gives its answer. It takes no memory.
     pub fn apply(&mut self, event: &Event) -> Result<Answer, NoMemory>
         requires { Allowed self.old.start (state_in self.old) event.now }
         ensures taken { IfOk result (λ _. self.new ≡ with_move self.old event.now.pass event.now.step) }
         ensures answer { IfOk result (λ answer. answer ≡ answer_of self.old.start (state_in self.old) event.now.pass event.now.step) }
         ensures no_memory { IfErr result (λ _. self.new ≡ self.old) }
+        ensures always { IsOk result }
     {
-        self.log.reserve(1)?;
         let answer = self.machine.take(*event);
-        self.log.push_reserved(*event);
+        self.log.push(*event);
         Ok(answer)
     }
 
@@ -130,7 +131,7 @@ impl Core {
         has_come(self.stage(pass, Kind::Add, 1)) || has_come(self.stage(pass, Kind::Sub, 1))
     }
 
-    /// Takes the next step of the pass's call; a funnel stays as it is where memory runs out.
+    /// Takes the next step of the pass's call. It takes no memory.
     pub fn step(&mut self, pass: u32) -> Result<CoreStep, NoMemory>
         requires in_range { pass < self.old.start.shape.passes }
         requires underway { HasCall self.old pass }
@@ -141,6 +142,7 @@ impl Core {
         ensures spends { IfOk result (λ _. left_of self.new pass ≡ left_of self.old pass) }
         ensures others { IfOk result (λ _. LeavesOthers self.old self.new pass) }
         ensures no_memory { IfErr result (λ _. self.new ≡ self.old) }
+        ensures always { IsOk result }
     {
         let step = self.machine.next_move(pass);
         let stage = self.stage_at(pass, step);
@@ -149,7 +151,7 @@ impl Core {
         Ok(told_by(cap, step, stage, answer))
     }
 
-    /// Makes a call that goes to the main word by itself, and gives the number that it met; a funnel stays as it is where memory runs out.
+    /// Makes a call that goes to the main word by itself, and gives the number that it met. It takes no memory.
     pub fn own(&mut self, pass: u32, kind: Kind, amount: u64) -> Result<u64, NoMemory>
         requires in_range { pass < self.old.start.shape.passes }
         requires idle { IsIdle self.old pass }
@@ -161,6 +163,7 @@ impl Core {
         ensures spends { IfOk result (λ _. left_of self.new pass + amount ≡ left_of self.old pass) }
         ensures others { IfOk result (λ _. LeavesOthers self.old self.new pass) }
         ensures no_memory { IfErr result (λ _. self.new ≡ self.old) }
+        ensures always { IsOk result }
     {
         self.log_is_legal();
         let read = Move::Load {
@@ -208,7 +211,7 @@ impl Core {
         };
         Ok(Core {
             machine,
-            log: Vec::new(alloc),
+            log: EventLog::new(),
         })
     }
 
@@ -241,6 +244,7 @@ impl Core {
         ensures taken { IfOk result (λ _. self.new ≡ with_move self.old pass step) }
         ensures met { IfOk result (λ reply. reply ≡ (state_in self.old).main) }
         ensures no_memory { IfErr result (λ _. self.new ≡ self.old) }
+        ensures always { IsOk result }
     {
         let main = self.main();
         self.apply(&Event { pass, step })?;
@@ -255,6 +259,7 @@ impl Core {
         ensures taken { IfOk result (λ _. self.new ≡ with_moves self.old pass (own_moves self.old.start.cap Kind.Add amount)) }
         ensures met { IfOk result (λ reply. reply ≡ (state_in self.old).main) }
         ensures no_memory { IfErr result (λ _. self.new ≡ self.old) }
+        ensures always { IsOk result }
     {
         if self.machine.start.cap == NO_CAP {
             self.own_step(pass, Move::Direct { amount })
@@ -272,6 +277,7 @@ impl Core {
         ensures taken { IfOk result (λ _. self.new ≡ with_moves self.old pass (exchange_moves kind amount)) }
         ensures met { IfOk result (λ reply. reply ≡ (state_in self.old).main) }
         ensures no_memory { IfErr result (λ _. self.new ≡ self.old) }
+        ensures always { IsOk result }
     {
         let load = Event {
             pass,
@@ -283,12 +289,11 @@ impl Core {
             pass,
             step: Move::Exchange { kind, amount },
         };
-        self.log.reserve(2)?;
         let main = self.machine.main;
         self.machine.take(load);
         self.machine.take(exchange);
-        self.log.push_reserved(load);
-        self.log.push_reserved(exchange);
+        self.log.push(load);
+        self.log.push(exchange);
         Ok(main)
     }
 }

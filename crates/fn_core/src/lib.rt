@@ -14,13 +14,16 @@ ghost use Rattle.fn_core.specs.Polls.{StepsFollow, PollsAreShort};
 ghost use Rattle.fn_core.specs.After.{StepsTell, WordsAreFound};
 
 mod aggregator_steps;
+mod allowed_steps;
 mod answer;
 mod begin;
+mod event_log;
 mod funnel;
 mod machine;
 mod main_steps;
+mod next_step;
 mod opening;
-mod order;
+mod row_numbers;
 
 pub use answer::{Answer, Blocked, CoreBegun, CoreStep, NoMemory, OpenFault, Why};
 pub use fn_layout::{Field, Kind, Shape};

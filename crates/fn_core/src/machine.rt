@@ -3,12 +3,13 @@
 ghost use Rattle.std.specs.Prelude.{◌≡◌, ◌↔◌, ◌<◌, List, IsTrue};
 ghost use Rattle.fn_layout.specs.Tree.{aggregator, member, IsLevel};
 ghost use Rattle.fn_layout.specs.Words.{IsSlot, aggregator_number};
-ghost use Rattle.fn_core.specs.Machine.{local_row};
+ghost use Rattle.fn_core.specs.Machine.{local_row, weight_of};
+ghost use Rattle.fn_core.specs.State.{stage};
 
 use crate::answer::Answer;
 use crate::{Event, Move, Position, Start};
 use fn_layout::Kind;
-use fn_rows::RowState;
+use fn_rows::{RowState, Stage};
 
 /// Where a pass stands in its call, and what is left of its allowance.
 #[derive(Clone, Copy)]
@@ -27,7 +28,7 @@ pub struct Machine {
 }
 
 impl Machine {
-    ghost use Rattle.fn_core.specs.Fields.{MayTake, Takes};
+    ghost use Rattle.fn_core.specs.Fields.{HasTaken, InEach, MayTake, Takes};
 
     // The number of the pass's aggregator, and the pass's number among its members.
     pub(crate) fn seat(&self, pass: u32, kind: Kind, level: u32) -> (usize, u32)
@@ -48,6 +49,28 @@ impl Machine {
     {
         let shape = self.start.shape;
         shape.member(pass, level) * shape.rows() + row % shape.rows()
+    }
+
+    // Where the pass stands at its aggregator of this kind and level.
+    pub(crate) fn stage_of(&self, pass: u32, kind: Kind, level: u32) -> Stage
+        requires taken { HasTaken self.now }
+        requires slot { IsSlot self.now.start.shape pass kind level }
+        ensures { InEach self.now (λ s. result ≡ stage self.now.start s kind level pass) }
+    {
+        let (place, member) = self.seat(pass, kind, level);
+        self.rows[place].stage(member)
+    }
+
+    // The weight of the batch that the pass has closed at this level.
+    pub(crate) fn weight_of(&self, pass: u32, kind: Kind, level: u32) -> u64
+        requires taken { HasTaken self.now }
+        requires slot { IsSlot self.now.start.shape pass kind level }
+        ensures { InEach self.now (λ s. result ≡ weight_of self.now.start s pass kind level) }
+    {
+        match self.stage_of(pass, kind, level) {
+            Stage::Shut(at, hi) => hi.saturating_sub(at),
+            _ => 0,
+        }
     }
 
     /// Takes a step, and gives its answer.

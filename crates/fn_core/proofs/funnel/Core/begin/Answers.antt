@@ -15,7 +15,7 @@ use Rattle.fn_core.proofs.funnel.Core.begin.Goals as goal
 pub take_all-requires : goal.take_all-requires
 take_all-requires c =
     let m = c.self.inside.machine in
-    let log : List Event = c.self.inside.log.items in
+    let log : List Event = c.self.inside.log in
     let s : State = run m.start log (opened m.start) in
     let inside : c.args.pass < m.start.shape.passes = subst (λ (v : CoreLog). c.args.pass < v.start.shape.passes) (sym c.self.view_is) c.requires.in_range in
     let idle : IsIdle (record { start = m.start; log = log }) c.args.pass = subst (λ (v : CoreLog). IsIdle v c.args.pass) (sym c.self.view_is) c.requires.idle in
@@ -26,62 +26,62 @@ take_all-requires c =
           (begin_happens m.start s c.args.pass inside c.args.kind c.requires.change c.args.amount idle spend),
     )
 
-pub invariant_of-self-2 : goal.invariant_of-self-2
-invariant_of-self-2 c =
+pub invariant_of-self : goal.invariant_of-self
+invariant_of-self c =
     let m = c.self.inside.machine in
-    let log : List Event = c.self.inside.log.items in
+    let log : List Event = c.self.inside.log in
     let s : State = run m.start log (opened m.start) in
     let inside : c.args.pass < m.start.shape.passes = subst (λ (v : CoreLog). c.args.pass < v.start.shape.passes) (sym c.self.view_is) c.requires.in_range in
     let idle : IsIdle (record { start = m.start; log = log }) c.args.pass = subst (λ (v : CoreLog). IsIdle v c.args.pass) (sym c.self.view_is) c.requires.idle in
     let spend : MaySpend s c.args.pass c.args.amount = subst (λ (v : CoreLog). MaySpend (state_in v) c.args.pass c.args.amount) (sym c.self.view_is) c.requires.amount in
     let legal : Legal m.start c.deref-2.result.now s = subst (λ (xs : List Event). Legal m.start xs s) (sym (c.deref-2.ensures.value ∙ c.in_ok-events.ensures.steps s c.self.invariant.fields))
     (begin_happens m.start s c.args.pass inside c.args.kind c.requires.change c.args.amount idle spend) in
-    subst (Stands c.take_all.new.self) (ap (λ (xs : List Event). log ++ xs) (c.deref-2.ensures.value ∙ sym c.deref.ensures.value) ∙ sym c.in_ok-extend_from_slice.ensures.items)
+    subst (Stands c.take_all.new.self) (ap (λ (xs : List Event). log ++ xs) (c.deref-2.ensures.value ∙ sym c.deref.ensures.value) ∙ sym c.extend.ensures)
     (c.take_all.ensures.stands log c.self.invariant legal)
 
 pub returns-clause-taken : goal.returns-clause-taken
 returns-clause-taken c =
     let m = c.self.inside.machine in
-    let log : List Event = c.self.inside.log.items in
+    let log : List Event = c.self.inside.log in
     let s : State = run m.start log (opened m.start) in
     let core : CoreLog = record { start = m.start; log = log } in
     let logged : Start → List Event → CoreLog = λ start xs. record { start = start; log = xs } in
     let steps = begin_moves m.start s c.args.pass c.args.kind c.args.amount in
-    let now : CoreLog = record { start = c.take_all.new.self.start; log = c.extend_from_slice.new.self.items } in
+    let now : CoreLog = record { start = c.take_all.new.self.start; log = c.extend.new.self } in
     subst (λ (v : CoreLog). now ≡ with_moves v c.args.pass (begin_moves v.start (state_in v) c.args.pass c.args.kind c.args.amount)) c.self.view_is
-    (ap (λ (start : Start). logged start c.extend_from_slice.new.self.items) c.take_all.ensures.start
-    ∙ ap (logged m.start) (c.in_ok-extend_from_slice.ensures.items ∙ ap (λ (xs : List Event). log ++ xs) (c.deref.ensures.value ∙ c.in_ok-events.ensures.steps s c.self.invariant.fields))
+    (ap (λ (start : Start). logged start c.extend.new.self) c.take_all.ensures.start
+    ∙ ap (logged m.start) (c.extend.ensures ∙ ap (λ (xs : List Event). log ++ xs) (c.deref.ensures.value ∙ c.in_ok-events.ensures.steps s c.self.invariant.fields))
     ∙ sym (with_moves_log core c.args.pass steps))
 
 pub returns-clause-waits : goal.returns-clause-waits
 returns-clause-waits c =
-    let told = subst (λ (v : CoreLog). c.in_ok-events.told ≡ begun v.start (state_in v) c.args.pass c.args.kind) c.self.view_is (c.in_ok-events.ensures.told (run c.self.inside.machine.start c.self.inside.log.items (opened c.self.inside.machine.start)) c.self.invariant.fields) in
+    let told = subst (λ (v : CoreLog). c.in_ok-events.told ≡ begun v.start (state_in v) c.args.pass c.args.kind) c.self.view_is (c.in_ok-events.ensures.told (run c.self.inside.machine.start c.self.inside.log (opened c.self.inside.machine.start)) c.self.invariant.fields) in
     after_waits c.args.self.now _ c.args.pass c.requires.in_range c.args.kind c.requires.change c.args.amount c.requires.idle (returns-clause-taken c) c.in_ok-events.told told
 
 pub returns-clause-made : goal.returns-clause-made
 returns-clause-made c =
-    let told = subst (λ (v : CoreLog). c.in_ok-events.told ≡ begun v.start (state_in v) c.args.pass c.args.kind) c.self.view_is (c.in_ok-events.ensures.told (run c.self.inside.machine.start c.self.inside.log.items (opened c.self.inside.machine.start)) c.self.invariant.fields) in
+    let told = subst (λ (v : CoreLog). c.in_ok-events.told ≡ begun v.start (state_in v) c.args.pass c.args.kind) c.self.view_is (c.in_ok-events.ensures.told (run c.self.inside.machine.start c.self.inside.log (opened c.self.inside.machine.start)) c.self.invariant.fields) in
     after_made c.args.self.now _ c.args.pass c.requires.in_range c.args.kind c.requires.change c.args.amount c.requires.idle (returns-clause-taken c) c.in_ok-events.told told
 
 pub returns-clause-spends : goal.returns-clause-spends
 returns-clause-spends c =
-    let told = subst (λ (v : CoreLog). c.in_ok-events.told ≡ begun v.start (state_in v) c.args.pass c.args.kind) c.self.view_is (c.in_ok-events.ensures.told (run c.self.inside.machine.start c.self.inside.log.items (opened c.self.inside.machine.start)) c.self.invariant.fields) in
+    let told = subst (λ (v : CoreLog). c.in_ok-events.told ≡ begun v.start (state_in v) c.args.pass c.args.kind) c.self.view_is (c.in_ok-events.ensures.told (run c.self.inside.machine.start c.self.inside.log (opened c.self.inside.machine.start)) c.self.invariant.fields) in
     after_spent c.args.self.now _ c.args.pass c.requires.in_range c.args.kind c.requires.change c.args.amount c.requires.idle (returns-clause-taken c) c.in_ok-events.told told c.requires.amount
 
 pub returns-clause-refused : goal.returns-clause-refused
 returns-clause-refused c =
-    let told = subst (λ (v : CoreLog). c.in_ok-events.told ≡ begun v.start (state_in v) c.args.pass c.args.kind) c.self.view_is (c.in_ok-events.ensures.told (run c.self.inside.machine.start c.self.inside.log.items (opened c.self.inside.machine.start)) c.self.invariant.fields) in
+    let told = subst (λ (v : CoreLog). c.in_ok-events.told ≡ begun v.start (state_in v) c.args.pass c.args.kind) c.self.view_is (c.in_ok-events.ensures.told (run c.self.inside.machine.start c.self.inside.log (opened c.self.inside.machine.start)) c.self.invariant.fields) in
     after_refused c.args.self.now _ c.args.pass c.requires.in_range c.args.kind c.requires.change c.args.amount c.requires.idle (returns-clause-taken c) c.in_ok-events.told told
 
 pub returns-clause-blocked : goal.returns-clause-blocked
 returns-clause-blocked c =
-    let told = subst (λ (v : CoreLog). c.in_ok-events.told ≡ begun v.start (state_in v) c.args.pass c.args.kind) c.self.view_is (c.in_ok-events.ensures.told (run c.self.inside.machine.start c.self.inside.log.items (opened c.self.inside.machine.start)) c.self.invariant.fields) in
+    let told = subst (λ (v : CoreLog). c.in_ok-events.told ≡ begun v.start (state_in v) c.args.pass c.args.kind) c.self.view_is (c.in_ok-events.ensures.told (run c.self.inside.machine.start c.self.inside.log (opened c.self.inside.machine.start)) c.self.invariant.fields) in
     after_blocked c.args.self.now _ c.args.pass c.requires.in_range c.args.kind c.requires.change c.args.amount c.requires.idle (returns-clause-taken c) c.in_ok-events.told told
 
 pub returns-clause-others : goal.returns-clause-others
 returns-clause-others c =
     let m = c.self.inside.machine in
-    let log : List Event = c.self.inside.log.items in
+    let log : List Event = c.self.inside.log in
     let s : State = run m.start log (opened m.start) in
     let core : CoreLog = record { start = m.start; log = log } in
     let inside : c.args.pass < m.start.shape.passes = subst (λ (v : CoreLog). c.args.pass < v.start.shape.passes) (sym c.self.view_is) c.requires.in_range in
@@ -96,7 +96,7 @@ returns-clause-others c =
 
 pub returns-clause-chosen : goal.returns-clause-chosen
 returns-clause-chosen c =
-    let told = subst (λ (v : CoreLog). c.in_ok-events.told ≡ begun v.start (state_in v) c.args.pass c.args.kind) c.self.view_is (c.in_ok-events.ensures.told (run c.self.inside.machine.start c.self.inside.log.items (opened c.self.inside.machine.start)) c.self.invariant.fields) in
+    let told = subst (λ (v : CoreLog). c.in_ok-events.told ≡ begun v.start (state_in v) c.args.pass c.args.kind) c.self.view_is (c.in_ok-events.ensures.told (run c.self.inside.machine.start c.self.inside.log (opened c.self.inside.machine.start)) c.self.invariant.fields) in
     after_chosen c.args.self.now _ c.args.pass c.requires.in_range c.args.kind c.requires.change c.args.amount c.requires.idle (returns-clause-taken c) c.in_ok-events.told told
 
 pub returns-clause-few : goal.returns-clause-few

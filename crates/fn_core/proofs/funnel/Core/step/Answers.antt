@@ -17,14 +17,14 @@ pub stage_at-stage-requires-clause-allowed : goal.stage_at-stage-requires-clause
 stage_at-stage-requires-clause-allowed c =
     let core = c.args.self.now in
     let legal = subst IsLegal c.self.view_is (c.self.invariant.start_ok, c.self.invariant.legal) in
-    let is = subst (λ (v : CoreLog). c.next_move-step.result ≡ next_move v.start (state_in v) c.args.pass) c.self.view_is (c.next_move-step.ensures c.self.inside.log.items c.self.invariant) in
+    let is = subst (λ (v : CoreLog). c.next_move-step.result ≡ next_move v.start (state_in v) c.args.pass) c.self.view_is (c.next_move-step.ensures c.self.inside.log c.self.invariant) in
     subst (λ (step : Move). Allowed core.start (state_in core) (record { pass = c.args.pass; step = step })) (sym is) (calls_always_go_on core.start core.log legal.0 legal.1 c.args.pass c.requires.in_range c.requires.underway)
 
 pub apply-requires : goal.apply-requires
 apply-requires c =
     let core = c.args.self.now in
     let legal = subst IsLegal c.self.view_is (c.self.invariant.start_ok, c.self.invariant.legal) in
-    let is = subst (λ (v : CoreLog). c.next_move-step.result ≡ next_move v.start (state_in v) c.args.pass) c.self.view_is (c.next_move-step.ensures c.self.inside.log.items c.self.invariant) in
+    let is = subst (λ (v : CoreLog). c.next_move-step.result ≡ next_move v.start (state_in v) c.args.pass) c.self.view_is (c.next_move-step.ensures c.self.inside.log c.self.invariant) in
     subst (λ (step : Move). Allowed core.start (state_in core) (record { pass = c.args.pass; step = step })) (sym is) (calls_always_go_on core.start core.log legal.0 legal.1 c.args.pass c.requires.in_range c.requires.underway)
 
 pub returns-clause-follows : goal.returns-clause-follows
@@ -33,7 +33,7 @@ returns-clause-follows c =
     let legal = subst IsLegal c.self.view_is (c.self.invariant.start_ok, c.self.invariant.legal) in
     let pass = c.args.pass in
     let step = c.next_move-step.result in
-    let is = subst (λ (v : CoreLog). step ≡ next_move v.start (state_in v) pass) c.self.view_is (c.next_move-step.ensures c.self.inside.log.items c.self.invariant) in
+    let is = subst (λ (v : CoreLog). step ≡ next_move v.start (state_in v) pass) c.self.view_is (c.next_move-step.ensures c.self.inside.log c.self.invariant) in
     let taken : c.apply.new.self ≡ with_move core pass (next_move core.start (state_in core) pass) = c.in_ok-answer.ensures.taken ∙ ap (with_move core pass) is in
     let told : c.told_by.result ≡ step_answer core.start (state_in core) pass =
     c.told_by.ensures
@@ -55,7 +55,7 @@ returns-clause-spends c =
     let core = c.args.self.now in
     let legal = subst IsLegal c.self.view_is (c.self.invariant.start_ok, c.self.invariant.legal) in
     let pass = c.args.pass in
-    let is = subst (λ (v : CoreLog). c.next_move-step.result ≡ next_move v.start (state_in v) pass) c.self.view_is (c.next_move-step.ensures c.self.inside.log.items c.self.invariant) in
+    let is = subst (λ (v : CoreLog). c.next_move-step.result ≡ next_move v.start (state_in v) pass) c.self.view_is (c.next_move-step.ensures c.self.inside.log c.self.invariant) in
     subst (λ (new : CoreLog). left_of new pass ≡ left_of core pass) (sym (c.in_ok-answer.ensures.taken ∙ ap (with_move core pass) is)) (step_left core legal pass c.requires.in_range c.requires.underway)
 
 pub returns-clause-others : goal.returns-clause-others
@@ -63,5 +63,5 @@ returns-clause-others c =
     let core = c.args.self.now in
     let legal = subst IsLegal c.self.view_is (c.self.invariant.start_ok, c.self.invariant.legal) in
     let pass = c.args.pass in
-    let is = subst (λ (v : CoreLog). c.next_move-step.result ≡ next_move v.start (state_in v) pass) c.self.view_is (c.next_move-step.ensures c.self.inside.log.items c.self.invariant) in
+    let is = subst (λ (v : CoreLog). c.next_move-step.result ≡ next_move v.start (state_in v) pass) c.self.view_is (c.next_move-step.ensures c.self.inside.log c.self.invariant) in
     subst (λ (new : CoreLog). LeavesOthers core new pass) (sym (c.in_ok-answer.ensures.taken ∙ ap (with_move core pass) is)) (step_others core legal pass c.requires.in_range c.requires.underway)

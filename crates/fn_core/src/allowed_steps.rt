@@ -1,24 +1,19 @@
-//! Which steps a pass may take, and which its call takes next.
+//! Which steps a pass may take.
 
-ghost use Rattle.std.specs.Prelude.{◌≡◌, ◌↔◌, ℕ, ◌+◌, ◌*◌, ◌/◌, ◌%◌, ◌<◌, ◌≤◌, List, IsTrue};
-ghost use Rattle.fn_layout.specs.Tree.{aggregator, member, members};
-ghost use Rattle.fn_layout.specs.Words.{IsSlot, row_number};
-ghost use Rattle.fn_rows.specs.Aggregator.{state_of};
-ghost use Rattle.fn_rows.specs.Machine.{IsFree};
-ghost use Rattle.fn_core.specs.Machine.{Allowed, May, Climbs, IsChange, IsRow, MayPeek, MaySpend, MayArrive, HasClosed, HasFreeRow, fills, local_row, place, run, weight_of};
+ghost use Rattle.std.specs.Prelude.{◌≡◌, ◌↔◌, ℕ, ◌<◌, ◌≤◌, List, IsTrue};
+ghost use Rattle.fn_layout.specs.Tree.{aggregator};
+ghost use Rattle.fn_core.specs.Machine.{Allowed, May, Climbs, IsChange, MayPeek, MaySpend, MayArrive, HasClosed, HasFreeRow, fills, run};
 ghost use Rattle.fn_core.specs.State.{opened, stage};
-ghost use Rattle.fn_core.specs.Order.{IsFirst, first_free, own_row, weight_below, enters_main, goes_up, next_at, next_on_row, next_move};
-ghost use Rattle.fn_core.specs.Words.{row_there};
 ghost use Rattle.fn_core.specs.declared.Event.{Event};
 
 use crate::machine::Machine;
 use crate::{Event, Move, Position, Purpose};
 use fn_layout::Kind;
 use fn_model::NO_CAP;
-use fn_rows::{Field, RowState, Stage};
+use fn_rows::{Field, Stage};
 
 impl Machine {
-    ghost use Rattle.fn_core.specs.Fields.{Stands, HasTaken, IsUnderwayIn, InEach, ClimbsIn, IsHeld};
+    ghost use Rattle.fn_core.specs.Fields.{Stands, HasTaken, InEach, ClimbsIn, IsHeld};
 
     /// Whether the event may happen now.
     pub fn can(&self, event: &Event) -> bool
@@ -341,14 +336,6 @@ impl Machine {
         }
     }
 
-    // Whether the row is the pass's, of this kind and level.
-    fn owns(&self, pass: u32, kind: Kind, level: u32, row: u32) -> bool
-        requires { IsSlot self.now.start.shape pass kind level }
-        ensures { IsTrue result ↔ ((n : ℕ) × IsRow self.now.start.shape pass kind level row n) }
-    {
-        self.own_row(pass, kind, level, u64::from(row)) == row
-    }
-
     // Whether the call points to this row.
     fn may_point(&self, pass: u32, kind: Kind, level: u32, row: u32) -> bool
         requires taken { HasTaken self.now }
@@ -404,17 +391,6 @@ impl Machine {
         }
     }
 
-    // Whether this row of the pass may be filled.
-    fn is_free(&self, pass: u32, kind: Kind, level: u32, row: u32) -> bool
-        requires taken { HasTaken self.now }
-        requires slot { IsSlot self.now.start.shape pass kind level }
-        ensures { InEach self.now (λ s. IsTrue result ↔ IsFree (members self.now.start.shape level (aggregator self.now.start.shape pass level)) (place self.now.start s kind level pass).state (member self.now.start.shape level pass) (local_row self.now.start.shape level pass row)) }
-    {
-        let (place, member) = self.seat(pass, kind, level);
-        let number = self.local_row(pass, level, row);
-        self.rows[place].is_free(member, number)
-    }
-
     // Whether the call reads this field of this row.
     fn may_peek(&self, pass: u32, row: u32, field: Field) -> bool
         requires taken { HasTaken self.now }
@@ -447,214 +423,6 @@ impl Machine {
             },
         }
     }
-
-    /// The next step of the pass's call.
-    pub fn next_move(&self, pass: u32) -> Move
-        requires { IsUnderwayIn self.now pass }
-        ensures { (log : List Event) → Stands self.now log → result ≡ next_move self.now.start (run self.now.start log (opened self.now.start)) pass }
-    {
-        match self.standings[pass as usize].position {
-            Position::Climbing { kind, level } => self.next_at(pass, kind, level),
-            Position::Deciding { kind, level, .. } => Move::Exchange {
-                kind,
-                amount: self.weight_of(pass, kind, level),
-            },
-            _ => Move::Glance,
-        }
-    }
-
-    // The next step of a call that has climbed to this level.
-    fn next_at(&self, pass: u32, kind: Kind, level: u32) -> Move
-        requires { ClimbsIn self.now pass kind level }
-        ensures { InEach self.now (λ s. result ≡ next_at self.now.start s pass kind level (stage self.now.start s kind level pass)) }
-    {
-        match self.stage_of(pass, kind, level) {
-            Stage::Out => Move::Glance,
-            Stage::Saw(_) => Move::Announce { kind, level },
-            Stage::Told(_) => Move::Arrive {
-                kind,
-                level,
-                weight: self.weight_below(pass, kind, level),
-            },
-            Stage::Waiting(_) => Move::Look { kind, level },
-            Stage::Lead(_) => Move::Close { kind, level },
-            Stage::Late(_) => Move::Head { kind, level },
-            Stage::Shut(_, _) => self.goes_up(pass, kind, level),
-            Stage::Based(_, _, _) => Move::Head { kind, level },
-            Stage::Pointed(_, _, _, _) => Move::Publish { kind, level },
-            Stage::Got(_, _) => Move::Leave { kind, level },
-            held => self.next_on_row(pass, kind, level, held),
-        }
-    }
-
-    // The next step of a call that fills a row, or has one in hand.
-    fn next_on_row(&self, pass: u32, kind: Kind, level: u32, held: Stage) -> Move
-        requires climbs { ClimbsIn self.now pass kind level }
-        requires there { InEach self.now (λ s. held ≡ stage self.now.start s kind level pass) }
-        ensures { InEach self.now (λ s. result ≡ next_on_row self.now.start s pass kind level held) }
-    {
-        match held {
-            Stage::Headed(_, _, _, _) => Move::Fill {
-                row: self.free_row(pass, kind, level),
-                field: Field::Lo,
-            },
-            Stage::FilledLo(_, _, _, _, row) => Move::Fill {
-                row: self.own_row(pass, kind, level, row),
-                field: Field::Base,
-            },
-            Stage::FilledBase(_, _, _, _, row) => Move::Fill {
-                row: self.own_row(pass, kind, level, row),
-                field: Field::Prev,
-            },
-            Stage::Filled(_, _, _, row) => Move::Point {
-                kind,
-                level,
-                row: self.own_row(pass, kind, level, row),
-            },
-            Stage::At(_, row) => Move::Peek {
-                row: self.row_there(pass, kind, level, row),
-                field: Field::Lo,
-            },
-            Stage::Over(_, row) => Move::Peek {
-                row: self.row_there(pass, kind, level, row),
-                field: Field::Prev,
-            },
-            Stage::Hit(_, row, _) => Move::Peek {
-                row: self.row_there(pass, kind, level, row),
-                field: Field::Base,
-            },
-            _ => Move::Glance,
-        }
-    }
-
-    // Where the pass stands at its aggregator of this kind and level.
-    fn stage_of(&self, pass: u32, kind: Kind, level: u32) -> Stage
-        requires taken { HasTaken self.now }
-        requires slot { IsSlot self.now.start.shape pass kind level }
-        ensures { InEach self.now (λ s. result ≡ stage self.now.start s kind level pass) }
-    {
-        let (place, member) = self.seat(pass, kind, level);
-        self.rows[place].stage(member)
-    }
-
-    // The weight of the batch that the pass has closed at this level.
-    fn weight_of(&self, pass: u32, kind: Kind, level: u32) -> u64
-        requires taken { HasTaken self.now }
-        requires slot { IsSlot self.now.start.shape pass kind level }
-        ensures { InEach self.now (λ s. result ≡ weight_of self.now.start s pass kind level) }
-    {
-        match self.stage_of(pass, kind, level) {
-            Stage::Shut(at, hi) => hi.saturating_sub(at),
-            _ => 0,
-        }
-    }
-
-    // The weight of the batch that the pass has closed one level below.
-    fn weight_below(&self, pass: u32, kind: Kind, level: u32) -> u64
-        requires { ClimbsIn self.now pass kind level }
-        ensures { InEach self.now (λ s. result ≡ weight_below self.now.start s pass kind level) }
-    {
-        if level == 1 {
-            0
-        } else {
-            self.weight_of(pass, kind, level - 1)
-        }
-    }
-
-    // A batch that was closed goes up one level, or enters the main word.
-    fn goes_up(&self, pass: u32, kind: Kind, level: u32) -> Move
-        requires taken { HasTaken self.now }
-        requires slot { IsSlot self.now.start.shape pass kind level }
-        ensures { InEach self.now (λ s. result ≡ goes_up self.now.start s pass kind level) }
-    {
-        if level == self.start.shape.levels() {
-            self.enters_main(pass, kind, level)
-        } else {
-            Move::See {
-                kind,
-                level: level + 1,
-            }
-        }
-    }
-
-    // A batch that was closed at the top enters the main word.
-    fn enters_main(&self, pass: u32, kind: Kind, level: u32) -> Move
-        requires taken { HasTaken self.now }
-        requires slot { IsSlot self.now.start.shape pass kind level }
-        ensures { InEach self.now (λ s. result ≡ enters_main self.now.start s pass kind level) }
-    {
-        let try_it = Move::Load {
-            purpose: Purpose::Try,
-        };
-        match kind {
-            Kind::Add => {
-                if self.start.cap == NO_CAP {
-                    Move::Apply {
-                        weight: self.weight_of(pass, kind, level),
-                    }
-                } else {
-                    try_it
-                }
-            }
-            _ => try_it,
-        }
-    }
-
-    // The first of the pass's rows that may be filled, or how many rows it has.
-    fn first_free(&self, pass: u32, kind: Kind, level: u32) -> u32
-        requires taken { HasTaken self.now }
-        requires slot { IsSlot self.now.start.shape pass kind level }
-        ensures { InEach self.now (λ s. result ≡ first_free self.now.start s kind level pass) }
-    {
-        let (place, member) = self.seat(pass, kind, level);
-        first_free_of(&self.rows[place], member, self.start.shape.rows())
-    }
-
-    // The first of the pass's rows that may be filled, by its number in the layout.
-    fn free_row(&self, pass: u32, kind: Kind, level: u32) -> u32
-        requires climbs { ClimbsIn self.now pass kind level }
-        requires free { InEach self.now (λ s. first_free self.now.start s kind level pass < self.now.start.shape.rows) }
-        ensures { InEach self.now (λ s. result ≡ row_number self.now.start.shape pass kind level (first_free self.now.start s kind level pass)) }
-    {
-        let row = self.first_free(pass, kind, level);
-        self.start.shape.row_of(pass, kind, level, row)
-    }
-
-    // The pass's row that has this number at its aggregator, by its number in the layout.
-    fn own_row(&self, pass: u32, kind: Kind, level: u32, row: u64) -> u32
-        requires { IsSlot self.now.start.shape pass kind level }
-        ensures { result ≡ own_row self.now.start.shape pass kind level row }
-    {
-        let shape = self.start.shape;
-        let rest = row % u64::from(shape.rows());
-        shape.row_of(pass, kind, level, rest as u32)
-    }
-
-    // The row with this number at the pass's aggregator, by its number in the layout.
-    fn row_there(&self, pass: u32, kind: Kind, level: u32, row: u64) -> u32
-        requires slot { IsSlot self.now.start.shape pass kind level }
-        requires named { row / self.now.start.shape.rows < members self.now.start.shape level (aggregator self.now.start.shape pass level) }
-        ensures { result ≡ row_there self.now.start.shape kind level (aggregator self.now.start.shape pass level) row }
-    {
-        let index = self.start.shape.aggregator_of(pass, level);
-        self.row_in(kind, level, index, row)
-    }
-}
-
-// The first of the member's rows that may be filled, or how many rows it has.
-fn first_free_of(state: &RowState, member: u32, rows: u32) -> u32
-    requires member { member < state.now.members }
-    requires rows { rows ≡ state.now.rows }
-    requires few { member < 64 }
-    requires short { rows ≤ 8 }
-    ensures { IsFirst (λ n. IsFree state.now.members (state_of state.now) member (member * rows + n)) rows result }
-{
-    for n in 0..rows {
-        if state.is_free(member, member * rows + n) {
-            return n;
-        }
-    }
-    rows
 }
 
 // Whether calls of this kind go through aggregators.
@@ -672,18 +440,5 @@ fn is_change(kind: Kind) -> bool
 fn is_kind(own: Kind, kind: Kind) -> bool
     ensures { IsTrue result ↔ own ≡ kind }
 {
-    match own {
-        Kind::Add => match kind {
-            Kind::Add => true,
-            _ => false,
-        },
-        Kind::Sub => match kind {
-            Kind::Sub => true,
-            _ => false,
-        },
-        Kind::Read => match kind {
-            Kind::Read => true,
-            _ => false,
-        },
-    }
+    own == kind
 }

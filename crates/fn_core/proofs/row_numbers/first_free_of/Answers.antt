@@ -4,7 +4,7 @@ use Rattle.std.proofs.lemmas.Bool.{cases_eq}
 use Rattle.fn_rows.specs.Aggregator.{state_of}
 use Rattle.fn_rows.specs.Machine.{IsFree}
 use Rattle.fn_core.proofs.Decided.{refuted}
-use Rattle.fn_core.proofs.order.first_free_of.Goals as goal
+use Rattle.fn_core.proofs.row_numbers.first_free_of.Goals as goal
 
 pub overflow_mul-member : goal.overflow_mul-member
 overflow_mul-member c = omega (arith, mul-add-lt c.args.member c.args.rows c.loop-n.n 64 c.requires.few c.loop-n-test.true, c.requires.short)
