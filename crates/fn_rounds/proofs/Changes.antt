@@ -2,7 +2,7 @@
 use Rattle.std.proofs.Common.{◌≡◌, List, [], ◌∷◌, None, Bool, true, false, refl}
 use Rattle.std.specs.List.{All}
 use Rattle.std.proofs.lemmas.List.Elements.{All-cons, All-nil}
-use Rattle.trace_text.specs.declared.scripts.ScriptLine.{ScriptLine}
+use Rattle.script_text.specs.declared.scripts.ScriptLine.{ScriptLine}
 use Rattle.fn_rounds.specs.Script.{IsChangeOrder, is_change, other_order}
 
 pub no_other-all : (lines : List ScriptLine) → other_order lines ≡ None → All (λ line. IsChangeOrder line.order) lines

@@ -4,7 +4,7 @@ use Rattle.std.proofs.lemmas.List.{take_more}
 use Rattle.running.specs.Running.{numbers_from, upto}
 use Rattle.fn_model.specs.declared.Kind.{Kind}
 use Rattle.fn_table.specs.Seen.{PassView}
-use Rattle.trace_text.specs.declared.scripts.ScriptLine.{ScriptLine}
+use Rattle.script_text.specs.declared.scripts.ScriptLine.{ScriptLine}
 use Rattle.fn_rounds.specs.declared.lanes.Lane.{Lane}
 use Rattle.fn_rounds.specs.Script.{order_of, orders_of}
 use Rattle.fn_rounds.specs.Dealing.{lane_for, lanes_for}

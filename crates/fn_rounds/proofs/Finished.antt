@@ -21,9 +21,9 @@ use Rattle.fn_core.specs.Calls.{CoreLog, calls_in, IsIdle}
 use Rattle.fn_core.proofs.Orders.{histories_go_on}
 use Rattle.fn_table.specs.Seen.{TableView, PassView, IsClosed, IsOf, AreAll, event, fresh, fresh_passes}
 use Rattle.fn_table.specs.Claims.{past, Rests}
-use Rattle.trace_text.specs.Sound.{IsSound, HasPasses, allowance}
-use Rattle.trace_text.specs.declared.scripts.Script.{Script}
-use Rattle.trace_text.specs.declared.scripts.ScriptLine.{ScriptLine}
+use Rattle.script_text.specs.Sound.{IsSound, HasPasses, allowance}
+use Rattle.script_text.specs.declared.scripts.Script.{Script}
+use Rattle.script_text.specs.declared.scripts.ScriptLine.{ScriptLine}
 use Rattle.fn_rounds.specs.declared.lanes.Lane.{Lane}
 use Rattle.fn_rounds.specs.declared.lanes.LaneDone.{LaneDone}
 use Rattle.fn_rounds.specs.Views.{LaneView}

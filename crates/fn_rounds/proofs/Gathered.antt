@@ -6,7 +6,7 @@ use Rattle.std.proofs.lemmas.List.Elements.{filter-append}
 use Rattle.std.proofs.lemmas.Option.{none-some, same_Some}
 use Rattle.std.specs.List.{zip}
 use Rattle.fn_model.specs.declared.Kind.{Kind}
-use Rattle.trace_text.specs.declared.scripts.ScriptLine.{ScriptLine}
+use Rattle.script_text.specs.declared.scripts.ScriptLine.{ScriptLine}
 use Rattle.fn_rounds.specs.Script.{order_of, orders_of, reply_line, reply_lines}
 use Rattle.fn_rounds.specs.Dealing.{answers_of, replies_of}
 use Rattle.fn_rounds.proofs.LineOrders.{no_line, orders_mine, orders_other, orders_more, orders_same, orders_before, orders_most}

@@ -7,11 +7,11 @@ use Rattle.std.proofs.lemmas.List.Sums.{sum_by-cons, length-filter, count_by-le-
 use Rattle.std.proofs.lemmas.Option.{slice_get_within, slice_get-get_or, get_or_from_slice_get}
 use Rattle.std.specs.List.{All}
 use Rattle.fn_model.specs.declared.Kind.{Kind}
-use Rattle.trace_text.specs.Order.{amount}
-use Rattle.trace_text.specs.Sound.{HasPasses, HasAmount, allowance}
-use Rattle.trace_text.specs.declared.scripts.Order.{Order}
-use Rattle.trace_text.specs.declared.scripts.Order.TheVariants.{Add, Sub}
-use Rattle.trace_text.specs.declared.scripts.ScriptLine.{ScriptLine}
+use Rattle.script_text.specs.Order.{amount}
+use Rattle.script_text.specs.Sound.{HasPasses, HasAmount, allowance}
+use Rattle.script_text.specs.declared.scripts.Order.{Order}
+use Rattle.script_text.specs.declared.scripts.Order.TheVariants.{Add, Sub}
+use Rattle.script_text.specs.declared.scripts.ScriptLine.{ScriptLine}
 use Rattle.fn_rounds.specs.InOrder.{asked}
 use Rattle.fn_rounds.specs.Lanes.{IsOrder}
 use Rattle.fn_rounds.specs.Script.{order_of, is_change, IsChangeOrder, orders_of}

@@ -9,9 +9,9 @@ use Rattle.std.specs.List.{AllZip, zip}
 use Rattle.fn_core.specs.Calls.{newly_opened}
 use Rattle.fn_core.specs.Machine.{no_cap}
 use Rattle.fn_table.specs.Seen.{TableView, PassView}
-use Rattle.trace_text.specs.Sound.{allowances}
-use Rattle.trace_text.specs.declared.scripts.Script.{Script}
-use Rattle.trace_text.specs.declared.scripts.ScriptLine.{ScriptLine}
+use Rattle.script_text.specs.Sound.{allowances}
+use Rattle.script_text.specs.declared.scripts.Script.{Script}
+use Rattle.script_text.specs.declared.scripts.ScriptLine.{ScriptLine}
 use Rattle.fn_rounds.specs.declared.lanes.Lane.{Lane}
 use Rattle.fn_rounds.specs.declared.lanes.LaneDone.{LaneDone}
 use Rattle.fn_rounds.specs.InOrder.{MadeInOrder}

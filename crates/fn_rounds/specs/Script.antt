@@ -14,11 +14,11 @@ use Rattle.fn_model.specs.Calls.{own}
 use Rattle.fn_model.specs.Integer.{value, Meets}
 use Rattle.fn_core.specs.Machine.{no_cap}
 use Rattle.fn_core.specs.Calls.{CoreLog, IsLegal, newly_opened}
-use Rattle.trace_text.specs.Sound.{allowances}
-use Rattle.trace_text.specs.declared.scripts.Order.{Order}
-use Rattle.trace_text.specs.declared.scripts.Order.TheVariants.{Add, Sub}
-use Rattle.trace_text.specs.declared.scripts.Script.{Script}
-use Rattle.trace_text.specs.declared.scripts.ScriptLine.{ScriptLine}
+use Rattle.script_text.specs.Sound.{allowances}
+use Rattle.script_text.specs.declared.scripts.Order.{Order}
+use Rattle.script_text.specs.declared.scripts.Order.TheVariants.{Add, Sub}
+use Rattle.script_text.specs.declared.scripts.Script.{Script}
+use Rattle.script_text.specs.declared.scripts.ScriptLine.{ScriptLine}
 use Rattle.fn_rounds.specs.InOrder.{call_at, numbered}
 
 -- what an order asks for, where it is an addition or a subtraction

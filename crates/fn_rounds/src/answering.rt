@@ -5,8 +5,8 @@ ghost use Rattle.fn_rounds.specs.Dealing.{answers_of, replies_of};
 
 use crate::lanes::{LaneDone, Replies};
 use fn_climb::Pass;
+use script_text::ScriptLine;
 use std::alloc::{AllocError, Global};
-use trace_text::ScriptLine;
 
 /// The passes of lanes that are done, and their replies.
 pub fn part(alloc: Global, dones: Vec<LaneDone>) -> Result<(Vec<Pass>, Vec<Replies>), AllocError>

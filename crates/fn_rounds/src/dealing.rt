@@ -6,8 +6,8 @@ ghost use Rattle.fn_rounds.specs.Dealing.{lanes_for};
 
 use crate::lanes::{Lane, Orders};
 use fn_climb::{Kind, Pass};
+use script_text::{Order, ScriptLine};
 use std::alloc::{AllocError, Global};
-use trace_text::{Order, ScriptLine};
 
 /// Each pass with the orders of its lines.
 pub fn lanes_for(

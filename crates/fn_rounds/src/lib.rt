@@ -19,7 +19,7 @@ pub use fn_table::Book;
 pub use lanes::{Lane, LaneDone, Orders, Replies};
 pub use orders::other_order;
 pub use script::rounds_text;
-pub use trace_text::Script;
+pub use script_text::Script;
 
 #[cfg(test)]
 mod script_tests;

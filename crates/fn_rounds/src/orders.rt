@@ -2,7 +2,7 @@
 ghost use Rattle.std.specs.Prelude.{◌≡◌, All, IfNone};
 ghost use Rattle.fn_rounds.specs.Script.{IsChangeOrder, is_change, other_order};
 
-use trace_text::{Order, Script};
+use script_text::{Order, Script};
 
 /// The number of the first line whose order is neither an addition nor a subtraction.
 pub fn other_order(script: &Script) -> Option<u64>

@@ -3,7 +3,7 @@ ghost use Rattle.std.specs.Prelude.{◌≡◌, All, IfOk};
 ghost use Rattle.fn_core.specs.Calls.{calls_in};
 ghost use Rattle.fn_table.specs.Seen.{IsOf, fresh_passes};
 ghost use Rattle.fn_table.specs.Claims.{Rests};
-ghost use Rattle.trace_text.specs.Sound.{IsSound};
+ghost use Rattle.script_text.specs.Sound.{IsSound};
 ghost use Rattle.fn_rounds.specs.Lanes.{MayMakeAll};
 ghost use Rattle.fn_rounds.specs.Script.{IsBookOf, IsChangeOrder, TellsRounds};
 ghost use Rattle.fn_rounds.specs.Dealing.{AreDone, OpensFor, lanes_for};
@@ -17,10 +17,10 @@ use fn_climb::FunnelTable;
 use fn_core::OpenFault;
 use fn_future::NoMemory;
 use fn_table::Book;
+use script_text::{Script, allowances};
 use std::alloc::{AllocError, AllocGlobal, Global};
 use std::random::RandomSource;
 use std::sync::Wait;
-use trace_text::{Script, allowances};
 
 /// Makes the additions and subtractions of a script on one thread: each pass makes those of its own lines, in order, and the passes take turns. The text has a line for each line of the script, in order, and then the value. It may wait.
 /// An error says that memory ran out, or that the random words with which an executor begins couldn't be had; the table is then lost.

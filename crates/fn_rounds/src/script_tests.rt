@@ -1,9 +1,9 @@
 use super::*;
+use script_text::read_script;
 use std::alloc::{AllocGlobal, Global};
 use std::random::RandomSource;
 use std::sync::Wait;
 use std::test::*;
-use trace_text::read_script;
 
 // The text of a script, where it has additions and subtractions alone, and the value of its book.
 fn told<R>(rt: &R, alloc: Global, input: &[u8]) -> Option<(Vec<u8>, u64)>

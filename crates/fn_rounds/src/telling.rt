@@ -3,8 +3,8 @@ ghost use Rattle.std.specs.Prelude.{◌≡◌, ◌++◌, IfOk, OnOk, codes, deci
 ghost use Rattle.fn_rounds.specs.Script.{reply_line, reply_lines};
 
 use itoa::Buffer;
+use script_text::ScriptLine;
 use std::alloc::{AllocError, Global};
-use trace_text::ScriptLine;
 
 /// The line of each reply, and the value.
 pub fn text_of(

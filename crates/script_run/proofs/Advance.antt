@@ -14,11 +14,11 @@ use Rattle.fn_table.specs.Later.{IsLater}
 use Rattle.fn_table.proofs.Later.{later_by}
 use Rattle.fn_table.specs.Called.{HasMadeNone}
 use Rattle.fn_direct.specs.Tries.{Tried}
-use Rattle.trace_text.specs.Order.{amount}
-use Rattle.trace_text.specs.Sound.{allowance}
-use Rattle.trace_text.specs.declared.scripts.Order.{Order}
-use Rattle.trace_text.specs.declared.scripts.Order.TheVariants as order
-use Rattle.trace_text.specs.declared.scripts.ScriptLine.{ScriptLine}
+use Rattle.script_text.specs.Order.{amount}
+use Rattle.script_text.specs.Sound.{allowance}
+use Rattle.script_text.specs.declared.scripts.Order.{Order}
+use Rattle.script_text.specs.declared.scripts.Order.TheVariants as order
+use Rattle.script_text.specs.declared.scripts.ScriptLine.{ScriptLine}
 use Rattle.script_run.specs.declared.lines.LineAnswer.{LineAnswer}
 use Rattle.script_run.specs.declared.lines.LineAnswer.TheVariants as answer
 use Rattle.script_run.specs.declared.trial.Caller.{Caller}

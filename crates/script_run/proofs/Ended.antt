@@ -21,11 +21,11 @@ use Rattle.fn_table.proofs.Glances.{glances_idle, glances_legal, glances_run}
 use Rattle.fn_table.specs.Later.{IsLater}
 use Rattle.fn_table.specs.Called.{HasMadeNone}
 use Rattle.fn_table.proofs.Books.{none_outside}
-use Rattle.trace_text.specs.Sound.{HasPasses, IsSound}
-use Rattle.trace_text.specs.Order.{amount}
-use Rattle.trace_text.specs.declared.scripts.Order.TheVariants as order
-use Rattle.trace_text.specs.declared.scripts.Script.{Script}
-use Rattle.trace_text.specs.declared.scripts.ScriptLine.{ScriptLine}
+use Rattle.script_text.specs.Sound.{HasPasses, IsSound}
+use Rattle.script_text.specs.Order.{amount}
+use Rattle.script_text.specs.declared.scripts.Order.TheVariants as order
+use Rattle.script_text.specs.declared.scripts.Script.{Script}
+use Rattle.script_text.specs.declared.scripts.ScriptLine.{ScriptLine}
 use Rattle.script_run.specs.declared.lines.LineAnswer.{LineAnswer}
 use Rattle.script_run.specs.declared.lines.LineAnswer.TheVariants as answer
 use Rattle.script_run.specs.declared.trial.Caller.{Caller}

@@ -19,9 +19,9 @@ use Rattle.fn_climb.specs.Turns.{GoesOn, Polled}
 use Rattle.fn_core.specs.declared.Move.{Move}
 use Rattle.fn_table.proofs.Later.{later_by}
 use Rattle.fn_table.specs.Called.{HasCalled, HasMadeNone, call_of}
-use Rattle.trace_text.specs.declared.scripts.Order.{Order}
-use Rattle.trace_text.specs.declared.scripts.Order.TheVariants as order
-use Rattle.trace_text.specs.declared.scripts.ScriptLine.{ScriptLine}
+use Rattle.script_text.specs.declared.scripts.Order.{Order}
+use Rattle.script_text.specs.declared.scripts.Order.TheVariants as order
+use Rattle.script_text.specs.declared.scripts.ScriptLine.{ScriptLine}
 use Rattle.script_run.specs.declared.lines.LineAnswer.{LineAnswer}
 use Rattle.script_run.specs.declared.lines.LineAnswer.TheVariants as answer
 use Rattle.script_run.specs.declared.trial.Caller.{Caller}

@@ -9,9 +9,9 @@ use Rattle.fn_model.specs.declared.Kind.TheVariants.{Add, Sub, Read}
 use Rattle.fn_model.specs.Calls.{count, own, place}
 use Rattle.fn_model.proofs.Calls.{place_beyond, reply_stays}
 use Rattle.fn_core.specs.declared.Start.{Start}
-use Rattle.trace_text.specs.declared.scripts.Order.{Order}
-use Rattle.trace_text.specs.declared.scripts.Order.TheVariants as order
-use Rattle.trace_text.specs.declared.scripts.ScriptLine.{ScriptLine}
+use Rattle.script_text.specs.declared.scripts.Order.{Order}
+use Rattle.script_text.specs.declared.scripts.Order.TheVariants as order
+use Rattle.script_text.specs.declared.scripts.ScriptLine.{ScriptLine}
 use Rattle.script_run.specs.declared.lines.LineAnswer.{LineAnswer}
 use Rattle.script_run.specs.declared.lines.LineAnswer.TheVariants.{Waits, NoRow, Going, Reply, NotYet, Lost, Met}
 use Rattle.script_run.specs.Answered.{IsMet, StandsBefore, answered_by, asked, made_by}

@@ -8,10 +8,10 @@ use Rattle.std.proofs.lemmas.List.FromFn.{get_or-map-range_with_len}
 use Rattle.std.proofs.lemmas.List.Sums.{sum_by-cons}
 use Rattle.fn_core.specs.Calls.{CoreLog, HasCall, IsIdle, left_of, state_in}
 use Rattle.fn_core.specs.State.{Caller}
-use Rattle.trace_text.specs.Order.{amount}
-use Rattle.trace_text.specs.Sound.{allowance}
-use Rattle.trace_text.specs.declared.scripts.Script.{Script}
-use Rattle.trace_text.specs.declared.scripts.ScriptLine.{ScriptLine}
+use Rattle.script_text.specs.Order.{amount}
+use Rattle.script_text.specs.Sound.{allowance}
+use Rattle.script_text.specs.declared.scripts.Script.{Script}
+use Rattle.script_text.specs.declared.scripts.ScriptLine.{ScriptLine}
 use Rattle.script_run.specs.declared.lines.LineAnswer.{LineAnswer}
 use Rattle.script_run.specs.declared.play.PlayFault.{PlayFault}
 use Rattle.script_run.specs.Lines.{answer_line, answers_text, value_line}

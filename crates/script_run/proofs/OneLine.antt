@@ -13,11 +13,11 @@ use Rattle.fn_core.specs.declared.answer.CoreBegun.TheVariants as begins
 use Rattle.fn_core.specs.State.{Caller}
 use Rattle.fn_core.specs.Begin.{begun}
 use Rattle.fn_core.specs.Calls.{CoreLog, HasCall, IsIdle, IsLegal, left_of, state_in}
-use Rattle.trace_text.specs.Order.{amount}
-use Rattle.trace_text.specs.Sound.{HasAmount}
-use Rattle.trace_text.specs.declared.scripts.Order.{Order}
-use Rattle.trace_text.specs.declared.scripts.Order.TheVariants as order
-use Rattle.trace_text.specs.declared.scripts.ScriptLine.{ScriptLine}
+use Rattle.script_text.specs.Order.{amount}
+use Rattle.script_text.specs.Sound.{HasAmount}
+use Rattle.script_text.specs.declared.scripts.Order.{Order}
+use Rattle.script_text.specs.declared.scripts.Order.TheVariants as order
+use Rattle.script_text.specs.declared.scripts.ScriptLine.{ScriptLine}
 use Rattle.script_run.specs.declared.lines.LineAnswer.{LineAnswer}
 use Rattle.script_run.specs.declared.lines.LineAnswer.TheVariants as answer
 use Rattle.script_run.specs.declared.play.PlayFault.{PlayFault}

@@ -13,9 +13,9 @@ use Rattle.fn_core.specs.State.{State, opened}
 use Rattle.fn_core.specs.declared.Start.{Start}
 use Rattle.fn_core.specs.Calls.{left_of}
 use Rattle.std.proofs.lemmas.List.FromFn.{get_or-map-range_with_len}
-use Rattle.trace_text.specs.Sound.{allowance}
-use Rattle.trace_text.specs.declared.scripts.Script.{Script}
-use Rattle.trace_text.specs.declared.scripts.ScriptLine.{ScriptLine}
+use Rattle.script_text.specs.Sound.{allowance}
+use Rattle.script_text.specs.declared.scripts.Script.{Script}
+use Rattle.script_text.specs.declared.scripts.ScriptLine.{ScriptLine}
 use Rattle.script_run.specs.declared.lines.LineAnswer.{LineAnswer}
 use Rattle.script_run.specs.declared.play.PlayFault.{PlayFault}
 use Rattle.script_run.specs.declared.play.PlayFault.TheVariants.{NoMemory, Unfinished}

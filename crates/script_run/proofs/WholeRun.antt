@@ -19,11 +19,11 @@ use Rattle.fn_model.proofs.Lists.{has_range, none_found}
 use Rattle.fn_core.proofs.Grows.{histories_grow}
 use Rattle.fn_core.proofs.Laws.{calls_stand_once, main_is_value}
 use Rattle.fn_core.proofs.Orders.{faultless_starts_are_starts}
-use Rattle.trace_text.specs.Order.{amount}
-use Rattle.trace_text.specs.Sound.{HasAmount, HasPasses, IsSound, allowances}
-use Rattle.trace_text.proofs.Allowed.{add_up, allowances-count}
-use Rattle.trace_text.specs.declared.scripts.Script.{Script}
-use Rattle.trace_text.specs.declared.scripts.ScriptLine.{ScriptLine}
+use Rattle.script_text.specs.Order.{amount}
+use Rattle.script_text.specs.Sound.{HasAmount, HasPasses, IsSound, allowances}
+use Rattle.script_text.proofs.Allowed.{add_up, allowances-count}
+use Rattle.script_text.specs.declared.scripts.Script.{Script}
+use Rattle.script_text.specs.declared.scripts.ScriptLine.{ScriptLine}
 use Rattle.script_run.specs.Lines.{answers_text}
 use Rattle.script_run.specs.declared.lines.LineAnswer.{LineAnswer}
 use Rattle.script_run.specs.declared.lines.LineAnswer.TheVariants.{Waits, NoRow, Going, Reply, NotYet, Lost, Met}

@@ -13,10 +13,10 @@ use Rattle.fn_model.specs.declared.Kind.TheVariants.{Add, Sub, Read}
 use Rattle.fn_model.specs.Calls.{own, place}
 use Rattle.fn_model.specs.Integer.{value, Meets}
 use Rattle.fn_core.specs.Machine.{no_cap}
-use Rattle.trace_text.specs.declared.scripts.Order.{Order}
-use Rattle.trace_text.specs.declared.scripts.Order.TheVariants as order
-use Rattle.trace_text.specs.declared.scripts.Script.{Script}
-use Rattle.trace_text.specs.declared.scripts.ScriptLine.{ScriptLine}
+use Rattle.script_text.specs.declared.scripts.Order.{Order}
+use Rattle.script_text.specs.declared.scripts.Order.TheVariants as order
+use Rattle.script_text.specs.declared.scripts.Script.{Script}
+use Rattle.script_text.specs.declared.scripts.ScriptLine.{ScriptLine}
 use Rattle.script_run.specs.declared.lines.LineAnswer.{LineAnswer}
 use Rattle.script_run.specs.declared.lines.LineAnswer.TheVariants.{NoRow, Reply, Lost}
 use Rattle.script_run.specs.Lines.{answers_text}

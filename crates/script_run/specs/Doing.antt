@@ -6,8 +6,8 @@
 use Rattle.std.specs.Prelude.{◌≡◌, ◌⊎◌, ℕ, ◌+◌, ◌<◌, ◌≤◌, ◌++◌, List, Option, Some, None, Result, Ok, Err}
 use Rattle.fn_core.specs.declared.Move.{Move}
 use Rattle.fn_core.specs.Calls.{CoreLog, IsIdle, HasCall, LeavesOthers, left_of, with_moves}
-use Rattle.trace_text.specs.Sound.{allowance}
-use Rattle.trace_text.specs.declared.scripts.ScriptLine.{ScriptLine}
+use Rattle.script_text.specs.Sound.{allowance}
+use Rattle.script_text.specs.declared.scripts.ScriptLine.{ScriptLine}
 use Rattle.script_run.specs.Lines.{answers_text}
 use Rattle.script_run.specs.declared.lines.LineAnswer.{LineAnswer}
 use Rattle.script_run.specs.declared.play.PlayFault.{PlayFault}

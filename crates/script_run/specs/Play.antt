@@ -23,11 +23,11 @@ use Rattle.fn_core.specs.Order.{next_move}
 use Rattle.fn_core.specs.Polls.{most_steps, poll_moves, poll_answer}
 use Rattle.fn_core.specs.Begin.{begin_moves, begun}
 use Rattle.fn_core.specs.Calls.{CoreLog, state_in, with_moves, newly_opened, step_answer, own_moves}
-use Rattle.trace_text.specs.Sound.{allowances}
-use Rattle.trace_text.specs.declared.scripts.Order.{Order}
-use Rattle.trace_text.specs.declared.scripts.Order.TheVariants as order
-use Rattle.trace_text.specs.declared.scripts.Script.{Script}
-use Rattle.trace_text.specs.declared.scripts.ScriptLine.{ScriptLine}
+use Rattle.script_text.specs.Sound.{allowances}
+use Rattle.script_text.specs.declared.scripts.Order.{Order}
+use Rattle.script_text.specs.declared.scripts.Order.TheVariants as order
+use Rattle.script_text.specs.declared.scripts.Script.{Script}
+use Rattle.script_text.specs.declared.scripts.ScriptLine.{ScriptLine}
 use Rattle.script_run.specs.declared.lines.LineAnswer.{LineAnswer}
 use Rattle.script_run.specs.declared.lines.LineAnswer.TheVariants.{Waits, NoRow, Going, Reply, NotYet, Met}
 use Rattle.script_run.specs.declared.play.PlayFault.{PlayFault}

@@ -6,9 +6,9 @@
 use Rattle.std.specs.Prelude.{◌≡◌, ℕ, List, [], ◌∷◌, Ok}
 use Rattle.fn_model.specs.declared.Call.{Call}
 use Rattle.fn_core.specs.Calls.{CoreLog, calls_in}
-use Rattle.trace_text.specs.Sound.{IsSound}
-use Rattle.trace_text.specs.declared.scripts.Script.{Script}
-use Rattle.trace_text.specs.declared.scripts.ScriptLine.{ScriptLine}
+use Rattle.script_text.specs.Sound.{IsSound}
+use Rattle.script_text.specs.declared.scripts.Script.{Script}
+use Rattle.script_text.specs.declared.scripts.ScriptLine.{ScriptLine}
 use Rattle.script_run.specs.declared.lines.LineAnswer.{LineAnswer}
 use Rattle.script_run.specs.Answered.{AreInTurn, IsAnswered}
 use Rattle.script_run.specs.Lines.{answers_text}

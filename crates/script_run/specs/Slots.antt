@@ -12,10 +12,10 @@ use Rattle.fn_core.specs.Calls.{IsIdle, left_of}
 use Rattle.fn_core.specs.declared.Move.TheVariants.{Glance}
 use Rattle.fn_table.specs.Seen.{TableView, PassView, NoteView, IsOf, Met, Stored, note_of}
 use Rattle.fn_table.specs.Called.{HasMadeNone}
-use Rattle.trace_text.specs.Sound.{allowance}
-use Rattle.trace_text.specs.declared.scripts.Order.{Order}
-use Rattle.trace_text.specs.declared.scripts.Order.TheVariants as order
-use Rattle.trace_text.specs.declared.scripts.ScriptLine.{ScriptLine}
+use Rattle.script_text.specs.Sound.{allowance}
+use Rattle.script_text.specs.declared.scripts.Order.{Order}
+use Rattle.script_text.specs.declared.scripts.Order.TheVariants as order
+use Rattle.script_text.specs.declared.scripts.ScriptLine.{ScriptLine}
 use Rattle.script_run.specs.declared.lines.LineAnswer.{LineAnswer}
 use Rattle.script_run.specs.declared.play.PlayFault.{PlayFault}
 use Rattle.script_run.specs.declared.trial.Caller.{Caller}

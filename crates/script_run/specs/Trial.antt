@@ -24,10 +24,10 @@ use Rattle.fn_climb.specs.Turns.{Polled}
 use Rattle.fn_climb.specs.declared.beginning.Begun.TheVariants as begun
 use Rattle.fn_table.specs.Called.{HasCalled, HasMadeNone}
 use Rattle.fn_direct.specs.Tries.{Tried}
-use Rattle.trace_text.specs.declared.scripts.Order.{Order}
-use Rattle.trace_text.specs.declared.scripts.Order.TheVariants as order
-use Rattle.trace_text.specs.declared.scripts.Script.{Script}
-use Rattle.trace_text.specs.declared.scripts.ScriptLine.{ScriptLine}
+use Rattle.script_text.specs.declared.scripts.Order.{Order}
+use Rattle.script_text.specs.declared.scripts.Order.TheVariants as order
+use Rattle.script_text.specs.declared.scripts.Script.{Script}
+use Rattle.script_text.specs.declared.scripts.ScriptLine.{ScriptLine}
 use Rattle.script_run.specs.declared.trial.Caller.{Caller}
 use Rattle.script_run.specs.declared.trial.Caller.TheVariants.{Idle, Pending}
 use Rattle.script_run.specs.declared.lines.LineAnswer.{LineAnswer}

@@ -12,5 +12,5 @@ pub use fn_climb::Pending;
 pub use fn_table::{Book, Pass};
 pub use lines::LineAnswer;
 pub use play::{PlayFault, play_script, replies_are_met};
-pub use trace_text::Script;
+pub use script_text::Script;
 pub use trial::{Caller, trial_script};

@@ -2,8 +2,8 @@
 ghost use Rattle.std.specs.Prelude.{◌≡◌, ◌≤◌, ◌<◌, None, Some, IfOk, IfErr, slice_get, slice_set, length, true, false};
 ghost use Rattle.fn_core.specs.Machine.{IsChange, no_cap};
 ghost use Rattle.fn_table.specs.Seen.{IsNoteOf, IsOf};
-ghost use Rattle.trace_text.specs.Order.{amount};
-ghost use Rattle.trace_text.specs.Sound.{HasAmount, HasPasses};
+ghost use Rattle.script_text.specs.Order.{amount};
+ghost use Rattle.script_text.specs.Sound.{HasAmount, HasPasses};
 ghost use Rattle.script_run.specs.Trial.{StepDone};
 ghost use Rattle.script_run.specs.Slots.{AllStand, AreFull, Gives, HasLeft, Noted, TookIn, beginning_of, is_resting_slot, present};
 
@@ -14,7 +14,7 @@ use fn_climb::{Begun, Pending, Step, Turn, begin};
 use fn_direct::{Lost, add_direct, meet, note, read, sub_direct};
 use fn_model::Kind;
 use fn_table::{FunnelTable, Note, Pass};
-use trace_text::{Order, ScriptLine};
+use script_text::{Order, ScriptLine};
 
 // Takes the caller of this number from its slot, which has to make no call.
 fn take_idle(callers: &mut [Option<Caller>], at: u64, number: u32) -> Result<Pass, PlayFault>

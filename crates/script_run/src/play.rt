@@ -7,9 +7,9 @@ ghost use Rattle.fn_core.specs.Begin.{begin_moves, begun};
 ghost use Rattle.fn_core.specs.Order.{next_move};
 ghost use Rattle.fn_core.specs.Polls.{most_steps, poll_answer, poll_moves};
 ghost use Rattle.fn_core.specs.Calls.{HasCall, IsIdle, MayOwn, left_of, own_moves, state_in, step_answer, with_moves};
-ghost use Rattle.trace_text.specs.Order.{amount};
-ghost use Rattle.trace_text.specs.Sound.{HasAmount, HasPasses, IsSound};
-ghost use Rattle.trace_text.specs.declared.scripts.ScriptLine.{ScriptLine};
+ghost use Rattle.script_text.specs.Order.{amount};
+ghost use Rattle.script_text.specs.Sound.{HasAmount, HasPasses, IsSound};
+ghost use Rattle.script_text.specs.declared.scripts.ScriptLine.{ScriptLine};
 ghost use Rattle.script_run.specs.Play.{begun_answer, busy, finish, idle, opened_core, order_answer, order_fault, order_moves, play_lines, play_text, rests, told_answer, unfinished};
 ghost use Rattle.script_run.specs.Doing.{Does, Gives, IsReady, Leaves, onto};
 ghost use Rattle.script_run.specs.Replies.{RepliesAreMet};
@@ -18,8 +18,8 @@ ghost use Rattle.script_run.specs.Answered.{TellsInTurn};
 use crate::lines::{LineAnswer, push_line, push_value};
 use fn_core::{Core, CoreBegun, CoreStep, NoMemory};
 use fn_model::Kind;
+use script_text::{Order, Script, ScriptLine, allowances};
 use std::alloc::Global;
-use trace_text::{Order, Script, ScriptLine, allowances};
 
 /// Why a script can't be played.
 #[derive(Clone, Copy, Debug, PartialEq, Eq)]

@@ -1,8 +1,8 @@
 //! Scripts on the table: the callers that a refusal hands back.
 use crate::play::PlayFault;
 use crate::trial::{Caller, trial_script};
+use script_text::read_script;
 use std::test::Fail;
-use trace_text::read_script;
 
 // Why a script is refused, and which of its callers are in mid-call then.
 fn refusal(rt: &HostRuntime, text: &str) -> Result<(PlayFault, Vec<bool>), Fail> {

@@ -2,8 +2,8 @@
 ghost use Rattle.std.specs.Prelude.{◌≡◌, ◌≢◌, ◌∷◌, ◌<◌, ◌⊎◌, [], List, Some, IfOk, IfErr, OnOk, map, length};
 ghost use Rattle.std.specs.List.{All};
 ghost use Rattle.fn_core.specs.Machine.{no_cap};
-ghost use Rattle.trace_text.specs.Sound.{HasAmount, HasPasses, IsSound};
-ghost use Rattle.trace_text.specs.declared.scripts.ScriptLine.{ScriptLine};
+ghost use Rattle.script_text.specs.Sound.{HasAmount, HasPasses, IsSound};
+ghost use Rattle.script_text.specs.declared.scripts.ScriptLine.{ScriptLine};
 ghost use Rattle.script_run.specs.Play.{fault_by, least_busy, opened_core};
 ghost use Rattle.script_run.specs.Answered.{TellsScript};
 ghost use Rattle.script_run.specs.Trial.{AreHandedBack, TellsTrial, first_callers, rests_in};
@@ -15,8 +15,8 @@ use crate::play::PlayFault;
 use fn_climb::Pending;
 use fn_core::NoMemory;
 use fn_table::{Book, FunnelTable, Pass};
+use script_text::{Script, ScriptLine, allowances};
 use std::alloc::Global;
-use trace_text::{Script, ScriptLine, allowances};
 
 /// A caller of a table: it makes no call, or its call is underway.
 #[derive(Drop)]

@@ -1,6 +1,6 @@
 -- What is said of a text that was read, and of one that was refused.
 use Rattle.std.proofs.Common.{◌≡◌, ℕ, ◌^◌, ◌<◌, List, Ok}
-use Rattle.trace_text.specs.Text.{lines}
+use Rattle.text_lines.specs.Text.{lines}
 use Rattle.throttle_run.proofs.ReadingFaults.{first-found}
 use Rattle.throttle_run.proofs.ReadingSpelled.{takes-sound, takes-spelled}
 use Rattle.throttle_run.specs.Faults.{IsRefusedFor}

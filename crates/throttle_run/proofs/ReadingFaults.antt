@@ -4,9 +4,9 @@ use Rattle.std.specs.Prelude.{nat_lt, option_to_list}
 use Rattle.std.specs.List.{sum_by}
 use Rattle.std.proofs.lemmas.Bool.{cases_Bool}
 use Rattle.std.proofs.lemmas.List.Sums.{sum_by-cons}
-use Rattle.trace_text.proofs.SoundLines.{bind_ok, lt-true}
-use Rattle.trace_text.specs.Steps.{◌>>=◌, fault_in}
-use Rattle.trace_text.specs.Text.{lines, number, words}
+use Rattle.text_lines.proofs.Steps.{bind_ok, lt-true}
+use Rattle.text_lines.specs.Steps.{◌>>=◌, fault_in}
+use Rattle.text_lines.specs.Text.{lines, number, words}
 use Rattle.throttle_run.proofs.ReadingSpelled.{line_of-from, line_of-is, lines_of-nothing, takes-read, takes-spelled, total_with-none, total_with-some, true-lt, within_limit-from, within_limit-ok}
 use Rattle.throttle_run.specs.Faults.{FirstFaultIsTold, IsAtFault, IsFirstFault, LineFaultsAreFirst, line_fault}
 use Rattle.throttle_run.specs.Lines.{amount_of, cost, line_of, lines_of, moment_of, take_of, total_with, within_limit, worker_of}

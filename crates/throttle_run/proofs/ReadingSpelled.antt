@@ -4,9 +4,9 @@ use Rattle.std.specs.Prelude.{nat_lt, option_to_list}
 use Rattle.std.specs.List.{AllByRecursion, sum_by}
 use Rattle.std.proofs.lemmas.List.Elements.{All-from_recursion}
 use Rattle.std.proofs.lemmas.List.Sums.{sum_by-cons}
-use Rattle.trace_text.proofs.SoundLines.{bind_ok, guard_err, guard_ok, lt-false, lt-true, required_ok}
-use Rattle.trace_text.specs.Steps.{required}
-use Rattle.trace_text.specs.Text.{lines, number, words}
+use Rattle.text_lines.proofs.Steps.{bind_ok, guard_err, guard_ok, lt-false, lt-true, required_ok}
+use Rattle.text_lines.specs.Steps.{required}
+use Rattle.text_lines.specs.Text.{lines, number, words}
 use Rattle.throttle_run.specs.Grammar.{SpellsLines, SpellsTake, SpellsTakes, TakesAreRead}
 use Rattle.throttle_run.specs.Lines.{AreSound, amount_of, cost, line_of, lines_of, moment_of, take_of, total_with, within_limit, worker_of}
 use Rattle.throttle_run.specs.declared.faults.ThrottleFault.TheVariants as fault

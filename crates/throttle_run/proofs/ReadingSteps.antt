@@ -1,8 +1,8 @@
 -- Lines that are read one after the other.
 use Rattle.std.proofs.Common.{◌≡◌, ℕ, ◌+◌, List, [], ◌∷◌, ◌++◌, Option, Result, Ok, Err, refl, ap, ◌∙◌, append_assoc, append-nil}
 use Rattle.std.specs.Prelude.{option_to_list}
-use Rattle.trace_text.specs.Steps.{◌>>=◌}
-use Rattle.trace_text.specs.Text.{words}
+use Rattle.text_lines.specs.Steps.{◌>>=◌}
+use Rattle.text_lines.specs.Text.{words}
 use Rattle.throttle_run.specs.Lines.{Fails, line_of, lines_of, total_with, within_limit}
 use Rattle.throttle_run.specs.declared.faults.ThrottleFault.{ThrottleFault}
 use Rattle.throttle_run.specs.declared.faults.ThrottleFault.TheVariants as fault

@@ -1,9 +1,9 @@
 -- The faults of a text of takes by their table: which line is at fault, and which fault is its first.
 use Rattle.std.specs.Prelude.{◌≡◌, ℕ, ◌+◌, ◌^◌, ◌<◌, ◌≤◌, ◌||◌, ◌⊎◌, ◌↔◌, not, if◌then◌else◌, List, [], ◌∷◌, ◌++◌, length, Option, Some, None, is_none, Err}
 use Rattle.std.specs.List.{sum_by}
-use Rattle.trace_text.specs.Faults.{is_amount, is_below}
-use Rattle.trace_text.specs.Steps.{fault_in}
-use Rattle.trace_text.specs.Text.{lines, number, words}
+use Rattle.text_lines.specs.Text.{is_amount, is_below}
+use Rattle.text_lines.specs.Steps.{fault_in}
+use Rattle.text_lines.specs.Text.{lines, number, words}
 use Rattle.throttle_run.specs.Grammar.{SpellsTake, SpellsTakes}
 use Rattle.throttle_run.specs.Lines.{cost, line_of, throttle_of}
 use Rattle.throttle_run.specs.declared.faults.ThrottleFault.{ThrottleFault}

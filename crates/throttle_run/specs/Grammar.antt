@@ -1,7 +1,7 @@
 -- The grammar of a text of takes: which lines say what, apart from how they are read and from any fault.
 use Rattle.std.specs.Prelude.{◌≡◌, ℕ, ◌+◌, ◌^◌, ◌<◌, ◌≤◌, ◌⊎◌, ◌↔◌, List, [], ◌∷◌, length, Some, Ok}
 use Rattle.std.specs.List.{sum_by}
-use Rattle.trace_text.specs.Text.{lines, number, words}
+use Rattle.text_lines.specs.Text.{lines, number, words}
 use Rattle.throttle_run.specs.Lines.{cost, throttle_of}
 use Rattle.throttle_run.specs.declared.lines.ThrottleLine.{ThrottleLine}
 

@@ -2,8 +2,8 @@
 -- order in which the faults are declared.
 use Rattle.std.specs.Prelude.{ℕ, ◌+◌, ◌^◌, ◌<◌, ◌≤◌, ◌≡◌, nat_lt, if◌then◌else◌, List, [], ◌∷◌, ◌++◌, Option, Some, None, option_to_list, Result, Ok, Err}
 use Rattle.std.specs.List.{All, sum_by}
-use Rattle.trace_text.specs.Steps.{◌>>=◌, required}
-use Rattle.trace_text.specs.Text.{lines, words, number}
+use Rattle.text_lines.specs.Steps.{◌>>=◌, required}
+use Rattle.text_lines.specs.Text.{lines, words, number}
 use Rattle.throttle_run.specs.declared.faults.ThrottleFault.{ThrottleFault}
 use Rattle.throttle_run.specs.declared.faults.ThrottleFault.TheVariants as fault
 use Rattle.throttle_run.specs.declared.lines.ThrottleLine.{ThrottleLine}

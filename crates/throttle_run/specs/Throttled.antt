@@ -19,7 +19,7 @@ use Rattle.fn_layout.specs.Workers.{IsShapeFor}
 use Rattle.tick_table.specs.declared.entry.Entry.{Entry}
 use Rattle.tick_table.specs.Claims.{reach}
 use Rattle.tick_table.specs.Seen.{entries_of, entry}
-use Rattle.trace_text.specs.Text.{lines}
+use Rattle.text_lines.specs.Text.{lines}
 use Rattle.quota_bucket.specs.declared.desks.Taken.{Taken}
 use Rattle.quota_bucket.specs.Closed.{BucketLog}
 use Rattle.quota_bucket.specs.Refill.{refill}

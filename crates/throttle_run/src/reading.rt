@@ -1,6 +1,6 @@
 //! Reading a text of takes: line by line, up to the first fault.
 ghost use Rattle.std.specs.Prelude.{◌≡◌, ◌≤◌, ◌++◌, Ok, IfOk, IfErr, OnOk, option_to_list};
-ghost use Rattle.trace_text.specs.Text.{lines, words};
+ghost use Rattle.text_lines.specs.Text.{lines, words};
 ghost use Rattle.throttle_run.specs.Faults.{FirstFaultIsTold, IsRefusedFor, LineFaultsAreFirst};
 ghost use Rattle.throttle_run.specs.Grammar.{SpellsTakes, TakesAreRead};
 ghost use Rattle.throttle_run.specs.Lines.{AreSound, Fails, Gives, amount_of, line_of, moment_of, take_of, throttle_of, total_with, within_limit, worker_of};
@@ -8,7 +8,7 @@ ghost use Rattle.throttle_run.specs.Lines.{AreSound, Fails, Gives, amount_of, li
 use crate::faults::ThrottleFault;
 use crate::lines::ThrottleLine;
 use std::alloc::Global;
-use trace_text::{Lines, Words, number};
+use text_lines::{Lines, Words, number};
 
 /// The most lines of a text, with words or without.
 pub const MOST_LINES: u64 = 1_000_000;

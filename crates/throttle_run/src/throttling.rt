@@ -4,7 +4,7 @@ ghost use Rattle.fn_model.specs.declared.TheConstants.{NO_CAP};
 ghost use Rattle.quota_bucket.specs.Closed.{history};
 ghost use Rattle.quota_bucket.specs.Faults.{bucket_fault};
 ghost use Rattle.quota_bucket.specs.Opened.{OpensWith, fresh_desks, IsNew};
-ghost use Rattle.trace_text.specs.Text.{lines};
+ghost use Rattle.text_lines.specs.Text.{lines};
 ghost use Rattle.throttle_run.specs.Faults.{IsRefusedFor};
 ghost use Rattle.throttle_run.specs.Lines.{AreSound, Fails, throttle_of};
 ghost use Rattle.throttle_run.specs.Throttled.{IsThrottled, IsBookOf, TellsThrottle, TellsText};
@@ -21,7 +21,7 @@ use quota_bucket::{Bucket, BucketBook, BucketDesk, BucketFault, Taken};
 use std::alloc::Global;
 use std::sync::Wait;
 use std::thread::Threads;
-use trace_text::NoMemory;
+use text_lines::NoMemory;
 
 /// How many workers there are, and what their bucket opens with.
 #[derive(Clone, Copy, Debug)]

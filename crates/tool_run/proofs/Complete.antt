@@ -4,10 +4,10 @@ use Rattle.std.specs.Io.KnownBytes.{Consumes, IsAtEnd}
 use Rattle.std.specs.List.{All}
 use Rattle.std.proofs.lemmas.List.Elements.{All-head, All-tail}
 use Rattle.running.specs.Running.{numbers_from, upto}
-use Rattle.trace_text.specs.Script.{content, script_of}
-use Rattle.trace_text.specs.declared.scripts.Script.{Script}
-use Rattle.trace_text.specs.declared.scripts.ScriptLine.{ScriptLine}
-use Rattle.trace_text.specs.Text.{lines}
+use Rattle.script_text.specs.Script.{content, script_of}
+use Rattle.script_text.specs.declared.scripts.Script.{Script}
+use Rattle.script_text.specs.declared.scripts.ScriptLine.{ScriptLine}
+use Rattle.text_lines.specs.Text.{lines}
 use Rattle.trace_text.specs.Records.{records_of}
 use Rattle.trace_text.proofs.Heard.{grammar-read}
 use Rattle.trace_text.proofs.Known.{first-refused}

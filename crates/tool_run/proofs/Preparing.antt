@@ -2,9 +2,9 @@
 use Rattle.std.proofs.Common.{◌≡◌, ℕ, List, [], Option, Some, Result, Ok, Err, refl, ap}
 use Rattle.fn_core.specs.Calls.{CoreLog, calls_in}
 use Rattle.fn_rounds.specs.Script.{IsBookOf, TellsRounds}
-use Rattle.trace_text.specs.Script.{script_of, content}
+use Rattle.script_text.specs.Script.{script_of, content}
 use Rattle.trace_text.specs.TraceLaws.{IsFirstFault, IsRefusedFor}
-use Rattle.trace_text.specs.declared.scripts.Script.{Script}
+use Rattle.script_text.specs.declared.scripts.Script.{Script}
 use Rattle.trace_text.specs.declared.traces.TraceFault.{TraceFault}
 use Rattle.trace_text.specs.declared.traces.TraceFault.TheVariants as trace
 use Rattle.tool_words.specs.declared.commands.Command.{Command}

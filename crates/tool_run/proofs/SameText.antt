@@ -3,9 +3,9 @@ use Rattle.std.proofs.Common.{◌≡◌, ◌≤◌, ℕ, sym, ◌∙◌, ap, sub
 use Rattle.std.proofs.Math.Bridge.{le_prop}
 use Rattle.fn_layout.specs.declared.shape.Shape.{Shape}
 use Rattle.fn_layout.specs.declared.shape.TheConstants.{MAX_PASSES, MAX_LEAVES, MAX_LEVELS, MAX_ROWS}
-use Rattle.trace_text.specs.Script.{content}
-use Rattle.trace_text.specs.declared.scripts.Script.{Script}
-use Rattle.trace_text.specs.declared.scripts.ScriptLine.{ScriptLine}
+use Rattle.script_text.specs.Script.{content}
+use Rattle.script_text.specs.declared.scripts.Script.{Script}
+use Rattle.script_text.specs.declared.scripts.ScriptLine.{ScriptLine}
 use Rattle.std.specs.Prelude.{List}
 use Rattle.script_run.specs.Play.{play_text}
 

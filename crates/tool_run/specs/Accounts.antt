@@ -5,9 +5,9 @@
 use Rattle.std.specs.Prelude.{◌≡◌, ℕ, ◌≤◌, List, [], length, map, Option, Some, Ok, Err}
 use Rattle.fn_core.specs.Calls.{CoreLog, calls_in}
 use Rattle.trace_text.specs.Drill.{drill}
-use Rattle.trace_text.specs.Script.{script_of, content}
+use Rattle.script_text.specs.Script.{script_of, content}
 use Rattle.trace_text.specs.Trace.{Content, trace_of}
-use Rattle.trace_text.specs.declared.scripts.Script.{Script}
+use Rattle.script_text.specs.declared.scripts.Script.{Script}
 use Rattle.replay_run.specs.Claim.{TellsReplay}
 use Rattle.replay_run.specs.Replay.{IsReplay, value_in}
 use Rattle.tq_queue.specs.Seen.{BookView}

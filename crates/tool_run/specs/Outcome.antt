@@ -16,14 +16,14 @@ use Rattle.fn_layout.specs.declared.shape.ShapeFault.{ShapeFault}
 use Rattle.fn_layout.specs.declared.shape.ShapeFault.TheVariants as shape
 use Rattle.quota_pool.specs.declared.moved.Moved.{Moved}
 use Rattle.trace_text.specs.Drill.{drill, drill_rows, total_taken}
-use Rattle.trace_text.specs.Script.{content, script_of}
+use Rattle.script_text.specs.Script.{content, script_of}
 use Rattle.trace_text.specs.Trace.{Content, added}
 use Rattle.trace_text.specs.TraceGrammar.{IsTrace}
 use Rattle.trace_text.specs.TraceLaws as trace_fault
 use Rattle.trace_text.specs.Records.{records_of}
-use Rattle.trace_text.specs.declared.scripts.Script.{Script}
-use Rattle.trace_text.specs.declared.scripts.ScriptFault.{ScriptFault}
-use Rattle.trace_text.specs.declared.scripts.ScriptFault.TheVariants as script
+use Rattle.script_text.specs.declared.scripts.Script.{Script}
+use Rattle.script_text.specs.declared.scripts.ScriptFault.{ScriptFault}
+use Rattle.script_text.specs.declared.scripts.ScriptFault.TheVariants as script
 use Rattle.trace_text.specs.declared.traces.Row.{Row}
 use Rattle.trace_text.specs.declared.traces.TraceFault.{TraceFault}
 use Rattle.trace_text.specs.declared.traces.TraceFault.TheVariants as trace
@@ -37,7 +37,7 @@ use Rattle.throttle_run.specs.Throttled.{TellsText}
 use Rattle.throttle_run.specs.declared.faults.ThrottleFault.{ThrottleFault}
 use Rattle.throttle_run.specs.declared.faults.ThrottleFault.TheVariants as takes
 use Rattle.throttle_run.specs.declared.lines.ThrottleLine.{ThrottleLine}
-use Rattle.trace_text.specs.Text.{lines}
+use Rattle.text_lines.specs.Text.{lines}
 use Rattle.relay_run.specs.Lines.{lines_of}
 use Rattle.relay_run.specs.Claim.{TellsRelay}
 use Rattle.relay_run.specs.declared.lines.TheConstants.{MOST_LINES}

@@ -4,9 +4,9 @@ use Rattle.std.specs.declared.alloc.Global.{Global}
 use Rattle.std.specs.Io.KnownBytes.{Consumes}
 use Rattle.edge_io.specs.Causes.{Rose}
 use Rattle.fn_core.specs.Calls.{CoreLog}
-use Rattle.trace_text.specs.Script.{script_of, content}
-use Rattle.trace_text.specs.Sound.{IsSound}
-use Rattle.trace_text.specs.declared.scripts.Script.{Script}
+use Rattle.script_text.specs.Script.{script_of, content}
+use Rattle.script_text.specs.Sound.{IsSound}
+use Rattle.script_text.specs.declared.scripts.Script.{Script}
 use Rattle.tool_words.specs.declared.commands.Command.{Command}
 use Rattle.tool_run.specs.Handed.{handed, handed_by, nothing, one_book}
 use Rattle.tool_run.specs.Accounts.{Accounts, RefusesWith, StopsWith}

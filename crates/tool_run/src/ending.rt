@@ -4,9 +4,10 @@ ghost use Rattle.tool_run.specs.Outcome.{error_line, play_fault_text, refusal_te
 
 use itoa::Buffer;
 use script_run::PlayFault;
+use script_text::{ScriptFault, ShapeFault};
 use std::marker::Model;
 use throttle_run::ThrottleFault;
-use trace_text::{ScriptFault, ShapeFault, TraceFault};
+use trace_text::TraceFault;
 
 /// The most bytes that are read.
 pub const INPUT_LIMIT: usize = 33_554_432;

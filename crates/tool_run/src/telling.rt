@@ -22,14 +22,13 @@ use relay_run::{Lines, LinesFault, Relayed, relay, relay_text, split_lines};
 use replay_report::{report_text, summary_text};
 use replay_run::{Replayed, replay};
 use script_run::{Caller, PlayFault, play_script, trial_script};
+use script_text::{Script, ScriptFault, read_script};
 use std::alloc::{AllocError, AllocGlobal, Global};
 use std::random::RandomSource;
 use std::sync::Wait;
 use std::thread::Threads;
 use throttle_run::{ThrottleFault, throttle_text};
-use trace_text::{
-    NoMemory, Script, ScriptFault, Trace, TraceFault, make_drill, read_script, read_trace,
-};
+use trace_text::{NoMemory, Trace, TraceFault, make_drill, read_trace};
 
 /// The text of a command, and what it hands back.
 #[derive(Drop)]

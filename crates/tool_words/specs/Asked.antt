@@ -5,8 +5,8 @@ use Rattle.std.specs.Prelude.{ℕ, ◌≤◌, ◌&&◌, nat_le, if◌then◌else
 use Rattle.std.specs.Option.{option_and_then}
 use Rattle.std.specs.declared.alloc.Global.{Global}
 use Rattle.clap.specs.Words.{Text}
-use Rattle.trace_text.specs.Fields.{kept}
-use Rattle.trace_text.specs.Text.{number, spelled_as}
+use Rattle.text_lines.specs.Text.{kept}
+use Rattle.text_lines.specs.Text.{number, spelled_as}
 use Rattle.tool_words.specs.Words.{given, reads}
 use Rattle.tool_words.specs.declared.commands.Command.{Command}
 use Rattle.tool_words.specs.declared.commands.Command.TheVariants as command

@@ -8,7 +8,7 @@ use crate::verbs::{Verb, count_of, verb_of};
 use crate::words::{WordsFault, read_words};
 use clap::ArgMatches;
 use std::alloc::{AllocError, Global};
-use trace_text::number;
+use text_lines::number;
 
 /// The most that a burst, a rate or a period can be.
 pub const MOST: u64 = 9_223_372_036_854_775_807;

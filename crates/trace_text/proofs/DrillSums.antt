@@ -11,7 +11,7 @@ use Rattle.trace_text.specs.declared.traces.Op.{Op}
 use Rattle.trace_text.specs.declared.traces.Op.TheVariants.{Add, Take, Direct, Read}
 use Rattle.trace_text.specs.declared.traces.Row.{Row}
 use Rattle.trace_text.specs.declared.traces.Tenant.{Tenant}
-use Rattle.trace_text.specs.declared.pieces.TheConstants.{MOST_NUMBER}
+use Rattle.text_lines.specs.declared.pieces.TheConstants.{MOST_NUMBER}
 
 -- a range with one more number
 range-more : (a n : ℕ) → range_with_len a (suc n) ≡ range_with_len a n ++ (a + n) ∷ []

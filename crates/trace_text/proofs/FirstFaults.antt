@@ -3,16 +3,16 @@ use Rattle.std.proofs.Common.{subst, tests, ◌≡◌, ℕ, suc, ◌+◌, Bool, 
 use Rattle.std.specs.Prelude.{◌==◌, ◌&&◌, ◌||◌, nat_le, nat_lt, not, if◌then◌else◌}
 use Rattle.std.proofs.lemmas.Bool.{cases_Bool}
 use Rattle.trace_text.proofs.InTurn.{records_after-more}
-use Rattle.trace_text.proofs.SoundLines.{bind_ok}
+use Rattle.text_lines.proofs.Steps.{bind_ok}
 use Rattle.trace_text.specs.Fields.{action_of, amount_of, cap_of, field, is_tenant, width, worker_of}
-use Rattle.trace_text.specs.Steps.{◌>>=◌, fault_in}
+use Rattle.text_lines.specs.Steps.{◌>>=◌, fault_in}
 use Rattle.trace_text.specs.Trace.{State, account_at, acted, called, opened, place_of, record_after, records_after, settled, spent, unnamed, within}
 use Rattle.trace_text.specs.TraceFaults.{FirstRecordIsAtFault, NoRecordIsAtFault, RecordFaultsAreFirst, asked_fault, record_fault}
 use Rattle.trace_text.specs.declared.fields.Action.{Action}
 use Rattle.trace_text.specs.declared.fields.Action.TheVariants.{Open, Settle, Call}
 use Rattle.trace_text.specs.declared.fields.Format.{Format}
 use Rattle.trace_text.specs.declared.fields.Format.TheVariants.{Plain, Capped}
-use Rattle.trace_text.specs.declared.pieces.TheConstants.{MOST_NUMBER}
+use Rattle.text_lines.specs.declared.pieces.TheConstants.{MOST_NUMBER}
 use Rattle.trace_text.specs.declared.tenants.TheConstants.{MOST_TENANTS}
 use Rattle.trace_text.specs.declared.tracing.TheConstants.{MOST_CUTS, MOST_RECORDS}
 use Rattle.trace_text.specs.declared.traces.Op.{Op}

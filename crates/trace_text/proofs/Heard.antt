@@ -18,7 +18,7 @@ use Rattle.trace_text.specs.TraceLaws.{GrammarIsRead}
 use Rattle.trace_text.specs.declared.fields.Action.{Action}
 use Rattle.trace_text.specs.declared.fields.Action.TheVariants.{Open, Settle, Call}
 use Rattle.trace_text.specs.declared.fields.Format.{Format}
-use Rattle.trace_text.specs.declared.pieces.TheConstants.{MOST_NUMBER}
+use Rattle.text_lines.specs.declared.pieces.TheConstants.{MOST_NUMBER}
 use Rattle.trace_text.specs.declared.tenants.Account.{Account}
 use Rattle.trace_text.specs.declared.tenants.TheConstants.{MOST_TENANTS}
 use Rattle.trace_text.specs.declared.tracing.TheConstants.{MOST_CUTS, MOST_RECORDS}

@@ -5,12 +5,12 @@ use Rattle.trace_text.proofs.Heard.{read_all-from}
 use Rattle.trace_text.proofs.LastSegment.{ended-last}
 use Rattle.trace_text.proofs.Named.{tenants_of}
 use Rattle.trace_text.proofs.Said.{read_all-said, records-sound}
-use Rattle.trace_text.proofs.SoundLines.{bind_ok}
+use Rattle.text_lines.proofs.Steps.{bind_ok}
 use Rattle.trace_text.proofs.SoundSteps.{Agrees}
 use Rattle.trace_text.specs.Fields.{format_of}
 use Rattle.trace_text.specs.SoundTrace.{additions, amounts}
 use Rattle.trace_text.specs.Records.{records_of}
-use Rattle.trace_text.specs.Steps.{◌>>=◌, fault_in}
+use Rattle.text_lines.specs.Steps.{◌>>=◌, fault_in}
 use Rattle.trace_text.specs.Trace.{Gives, State, content, content_of, read_all, record_after, records_after, start, trace_of}
 use Rattle.trace_text.specs.TraceFaults.{record_fault}
 use Rattle.trace_text.specs.TraceLaws.{FirstIsRefused, HasNoFormat, IsFirstFault, IsRefusedFor, RefusedForFirst, StateIsKnown, StopsAt, all_counted, counted, known}

@@ -1,11 +1,8 @@
-pub mod Allowed
 pub mod Before
 pub mod ByName
 pub mod Cells
-pub mod Cutting
 pub mod DrillSums
 pub mod FirstFaults
-pub mod HeaderFaults
 pub mod Heard
 pub mod InPlace
 pub mod InTurn
@@ -13,13 +10,7 @@ pub mod Known
 pub mod LastSegment
 pub mod Moves
 pub mod Named
-pub mod OneByOne
-pub mod Refused
 pub mod Said
 pub mod Segments
-pub mod SoundLines
 pub mod SoundSteps
-pub mod Spelled
 pub mod Turns
-pub mod Whole
-pub mod WholeRefused

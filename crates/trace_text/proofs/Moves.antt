@@ -2,18 +2,17 @@
 use Rattle.std.proofs.Common.{rules, tests, ◌≡◌, ℕ, ◌+◌, ◌<◌, ◌≤◌, Bool, true, false, List, [], ◌∷◌, ◌++◌, length, map, set, Option, Some, None, Ok, Err, refl, sym, arith}
 use Rattle.std.specs.Prelude.{◌==◌, ◌&&◌, nat_le, nat_lt, if◌then◌else◌}
 use Rattle.std.proofs.lemmas.List.Quantifiers.{position-Some}
-use Rattle.trace_text.proofs.Cutting.{both_hold}
-use Rattle.trace_text.proofs.SoundLines.{bind_ok, guard_err, guard_ok, le-true, lt-false, lt-true, number-bound, required_ok}
-use Rattle.trace_text.specs.Fields.{action_of, amount_of, cap_of, field, is_tenant, kept, width, worker_of}
+use Rattle.text_lines.proofs.Steps.{both_hold, bind_ok, chosen, guard_err, guard_ok, le-true, lt-false, lt-true, number-bound, required_ok}
+use Rattle.trace_text.specs.Fields.{action_of, amount_of, cap_of, field, is_tenant, width, worker_of}
 use Rattle.trace_text.specs.SoundTrace.{IsAmount}
-use Rattle.trace_text.specs.Steps.{required}
-use Rattle.trace_text.specs.Text.{number}
+use Rattle.text_lines.specs.Steps.{required}
+use Rattle.text_lines.specs.Text.{kept, number}
 use Rattle.trace_text.specs.Trace.{State, account_after, account_at, account_of, account_settled, acted, called, no_account, opened, place_of, record_after, settled, spent, unnamed, within}
 use Rattle.trace_text.specs.declared.fields.Action.{Action}
 use Rattle.trace_text.specs.declared.fields.Action.TheVariants.{Open, Settle, Call}
 use Rattle.trace_text.specs.declared.fields.Format.{Format}
 use Rattle.trace_text.specs.declared.fields.Format.TheVariants.{Plain, Capped}
-use Rattle.trace_text.specs.declared.pieces.TheConstants.{MOST_NUMBER}
+use Rattle.text_lines.specs.declared.pieces.TheConstants.{MOST_NUMBER}
 use Rattle.trace_text.specs.declared.tenants.Account.{Account}
 use Rattle.trace_text.specs.declared.tenants.TheConstants.{MOST_TENANTS}
 use Rattle.trace_text.specs.declared.tracing.TheConstants.{MOST_CUTS, MOST_RECORDS}
@@ -49,14 +48,10 @@ pub record Calls (workers at : ℕ) (state next : State) : Type 0 where
   pub is : next ≡ record { accounts = set state.accounts place (account_after op amount (account_at state.accounts place)); rows = state.rows ++ record { at = at; worker = worker; op = op; tenant = place; amount = amount } ∷ []; cuts = state.cuts }
 
 -- a number that was kept passes the test
-kept-if : (b : Bool) (m n : ℕ) → (if b then Some m else None) ≡ Some n → (b ≡ true) × (m ≡ n)
-kept-if true m n h = (refl, cc)
-kept-if false m n h = cc
-
 kept-some : (test : ℕ → Bool) (o : Option ℕ) (n : ℕ) → kept test o ≡ Some n → (o ≡ Some n) × (test n ≡ true)
 kept-some test None n h = cc
 kept-some test (Some m) n h =
-    let was = kept-if (test m) m n h in
+    let was = chosen (test m) m n h in
     rw (← was.1) (refl, was.0)
 
 pub eq-true : (m n : ℕ) → (m == n) ≡ true → m ≡ n

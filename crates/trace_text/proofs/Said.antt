@@ -6,11 +6,11 @@ use Rattle.std.proofs.lemmas.List.{map-append}
 use Rattle.trace_text.proofs.FirstFaults.{settle-cap}
 use Rattle.trace_text.proofs.Moves.{eq-true, spent-ok}
 use Rattle.trace_text.proofs.Named.{named-found, new-nowhere, tenants_of}
-use Rattle.trace_text.proofs.SoundLines.{bind_ok, guard_ok, required_ok}
+use Rattle.text_lines.proofs.Steps.{bind_ok, guard_ok, required_ok}
 use Rattle.trace_text.proofs.SoundSteps.{IsSoundState, sound-start, sound-step, sound-trace}
 use Rattle.trace_text.specs.Fields.{action_of, amount_of, cap_of, field, format_of, is_tenant, width, worker_of}
 use Rattle.trace_text.specs.Records.{records_of}
-use Rattle.trace_text.specs.Steps.{required}
+use Rattle.text_lines.specs.Steps.{required}
 use Rattle.trace_text.specs.Trace.{Gives, State, content, account_after, account_at, account_of, account_settled, acted, called, content_of, no_account, opened, place_of, read_all, record_after, records_after, settled, spent, start, trace_of, unnamed, within}
 use Rattle.trace_text.specs.TraceGrammar.{Adds, IsTrace, IsWithin, SayAll, Says}
 use Rattle.trace_text.specs.TraceLaws.{TracesAreInGrammar}

@@ -14,7 +14,7 @@ use Rattle.trace_text.specs.Accounts.{AreHeld, IsHeld}
 use Rattle.trace_text.specs.SoundTrace.{CutsRise, IsSoundRow, IsSoundTrace, IsWithinCap, StaysBelow, additions, amounts}
 use Rattle.trace_text.specs.Trace.{State, account_after, account_at, account_of, account_settled, added, content_of, no_account, record_after, start}
 use Rattle.trace_text.specs.declared.fields.Format.{Format}
-use Rattle.trace_text.specs.declared.pieces.TheConstants.{MOST_NUMBER}
+use Rattle.text_lines.specs.declared.pieces.TheConstants.{MOST_NUMBER}
 use Rattle.trace_text.specs.declared.tenants.Account.{Account}
 use Rattle.trace_text.specs.declared.tenants.TheConstants.{MOST_TENANTS}
 use Rattle.trace_text.specs.declared.tracing.TheConstants.{MOST_CUTS, MOST_RECORDS}

@@ -1,7 +1,7 @@
 -- What holds of the accounts of a trace while it is read.
 use Rattle.std.specs.Prelude.{◌≤◌, List, length}
 use Rattle.std.specs.List.{All}
-use Rattle.trace_text.specs.declared.pieces.TheConstants.{MOST_NUMBER}
+use Rattle.text_lines.specs.declared.pieces.TheConstants.{MOST_NUMBER}
 use Rattle.trace_text.specs.declared.tenants.Account.{Account}
 use Rattle.trace_text.specs.declared.tenants.TheConstants.{MOST_TENANTS}
 

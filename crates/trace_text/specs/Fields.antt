@@ -5,12 +5,12 @@ use Rattle.std.specs.List.{list_all}
 use Rattle.std.specs.Option.{unwrap_or}
 use Rattle.std.specs.Str.{bytes_eq}
 use Rattle.csv.specs.Records.{field_at}
-use Rattle.trace_text.specs.Text.{number, spelled_as}
+use Rattle.text_lines.specs.Text.{kept, number, spelled_as}
 use Rattle.trace_text.specs.declared.fields.Action.{Action}
 use Rattle.trace_text.specs.declared.fields.Action.TheVariants.{Open, Settle, Call}
 use Rattle.trace_text.specs.declared.fields.Format.{Format}
 use Rattle.trace_text.specs.declared.fields.Format.TheVariants.{Plain, Capped}
-use Rattle.trace_text.specs.declared.pieces.TheConstants.{MOST_NUMBER}
+use Rattle.text_lines.specs.declared.pieces.TheConstants.{MOST_NUMBER}
 use Rattle.trace_text.specs.declared.traces.Op.TheVariants.{Add, Take, Direct, Read}
 
 -- the field of a record at a place, which has no bytes where there is none
@@ -33,11 +33,6 @@ format_of row =
     else (if length row == 4 then Some Plain
     else (if (length row == 5) && bytes_eq (field row 4) (codes "cap") then Some Capped
     else None))
-
--- a number that passes a test
-abbrev pub kept : (ℕ → Bool) → Option ℕ → Option ℕ
-kept test None = None
-kept test (Some n) = if test n then Some n else None
 
 -- a worker: a number below `workers`
 unfoldable pub worker_of : ℕ → List ℕ → Option ℕ

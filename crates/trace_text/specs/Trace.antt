@@ -6,11 +6,11 @@ use Rattle.std.specs.List.{position}
 use Rattle.std.specs.Str.{bytes_eq}
 use Rattle.trace_text.specs.Fields.{action_of, amount_of, cap_of, field, format_of, is_tenant, width, worker_of}
 use Rattle.trace_text.specs.Records.{records_of}
-use Rattle.trace_text.specs.Steps.{◌>>=◌, required}
+use Rattle.text_lines.specs.Steps.{◌>>=◌, required}
 use Rattle.trace_text.specs.declared.fields.Action.{Action}
 use Rattle.trace_text.specs.declared.fields.Action.TheVariants.{Open, Settle, Call}
 use Rattle.trace_text.specs.declared.fields.Format.{Format}
-use Rattle.trace_text.specs.declared.pieces.TheConstants.{MOST_NUMBER}
+use Rattle.text_lines.specs.declared.pieces.TheConstants.{MOST_NUMBER}
 use Rattle.trace_text.specs.declared.tenants.Account.{Account}
 use Rattle.trace_text.specs.declared.tenants.TheConstants.{MOST_TENANTS}
 use Rattle.trace_text.specs.declared.tracing.Ledger.{Ledger}

@@ -1,13 +1,13 @@
 -- The faults of a trace by their table: which record is at fault, and which fault is its first.
 use Rattle.std.specs.Prelude.{◌≡◌, ℕ, ◌+◌, ◌==◌, ◌||◌, Bool, false, not, nat_le, nat_lt, if◌then◌else◌, List, ◌∷◌, ◌++◌, length, Option, Some, None, is_none, is_some, Ok, Err}
 use Rattle.std.specs.Option.{unwrap_or}
-use Rattle.trace_text.specs.Steps.{fault_in}
+use Rattle.text_lines.specs.Steps.{fault_in}
 use Rattle.trace_text.specs.Fields.{action_of, amount_of, cap_of, field, is_tenant, width, worker_of}
 use Rattle.trace_text.specs.Trace.{State, account_at, place_of, record_after, records_after}
 use Rattle.trace_text.specs.declared.fields.Action.{Action}
 use Rattle.trace_text.specs.declared.fields.Action.TheVariants.{Open, Settle, Call}
 use Rattle.trace_text.specs.declared.fields.Format.{Format}
-use Rattle.trace_text.specs.declared.pieces.TheConstants.{MOST_NUMBER}
+use Rattle.text_lines.specs.declared.pieces.TheConstants.{MOST_NUMBER}
 use Rattle.trace_text.specs.declared.tenants.TheConstants.{MOST_TENANTS}
 use Rattle.trace_text.specs.declared.tracing.TheConstants.{MOST_CUTS, MOST_RECORDS}
 use Rattle.trace_text.specs.declared.traces.TraceFault.{TraceFault}

@@ -2,7 +2,7 @@
 use Rattle.std.specs.Prelude.{◌≡◌, ℕ, ◌+◌, ◌-◌, ◌⊎◌, min, List, [], ◌∷◌, ◌++◌, length, take, drop, Some, None, Result, Ok, Err}
 use Rattle.trace_text.specs.Fields.{format_of}
 use Rattle.trace_text.specs.SoundTrace.{additions, amounts}
-use Rattle.trace_text.specs.Steps.{◌>>=◌}
+use Rattle.text_lines.specs.Steps.{◌>>=◌}
 use Rattle.trace_text.specs.Trace.{Content, State, content_of, read_all, records_after, start}
 use Rattle.trace_text.specs.TraceFaults.{record_fault}
 use Rattle.trace_text.specs.TraceGrammar.{IsTrace}

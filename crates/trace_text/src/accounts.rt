@@ -4,13 +4,12 @@ ghost use Rattle.trace_text.specs.Accounts.{AreHeld};
 ghost use Rattle.trace_text.specs.Fields.{is_name};
 ghost use Rattle.trace_text.specs.Trace.{Fails, account_at, account_of, account_settled, place_of, spent};
 
-use crate::pieces::MOST_NUMBER;
-use crate::scripts::NoMemory;
 use crate::tenants::{Account, account_of, settle_all, spend};
 use crate::traces::{Op, TraceFault};
 use std::alloc::Global;
 use std::collections::HashMap;
 use std::marker::Model;
+use text_lines::{MOST_NUMBER, NoMemory};
 
 /// Accounts in the order in which they are opened, with their places by name.
 #[derive(Drop)]

@@ -4,10 +4,9 @@ ghost use Rattle.trace_text.specs.Drill.{drill, drill_row, drill_rows, taken, to
 ghost use Rattle.trace_text.specs.SoundTrace.{IsSoundTrace};
 ghost use Rattle.trace_text.specs.Trace.{content};
 
-use crate::pieces::MOST_NUMBER;
-use crate::scripts::NoMemory;
 use crate::traces::{Name, Op, Row, Tenant, Trace};
 use std::alloc::Global;
+use text_lines::{MOST_NUMBER, NoMemory};
 
 /// The greatest seed of a drill.
 pub const MOST_SEED: u64 = 1_000_000;

@@ -1,12 +1,12 @@
 //! The fields of a record of a trace, one by one.
-ghost use Rattle.std.specs.Prelude.{◌≡◌, ◌≤◌, true, length, IfSome, option_map};
+ghost use Rattle.std.specs.Prelude.{◌≡◌, ◌≤◌, true, IfSome};
 ghost use Rattle.std.specs.List.{list_all};
 ghost use Rattle.csv.specs.Records.{fields_of};
 ghost use Rattle.trace_text.specs.Fields.{action_of, amount_of, cap_of, field, format_of, is_name, is_name_byte, is_tenant, names_four, width, worker_of};
 
-use crate::pieces::{MOST_NUMBER, number};
 use crate::traces::Op;
 use csv::ByteRecord;
+use text_lines::{MOST_NUMBER, number};
 
 /// Which fields the records have.
 #[derive(Clone, Copy)]

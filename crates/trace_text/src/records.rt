@@ -1,8 +1,8 @@
 //! The records of some bytes, one after the other.
-use crate::scripts::NoMemory;
 use csv::{ByteRecord, Reader, ReaderBuilder};
 use std::alloc::Global;
 use std::marker::Model;
+use text_lines::NoMemory;
 
 /// A reader of records, which contracts see as the records that are left.
 #[derive(Drop)]

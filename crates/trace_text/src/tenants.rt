@@ -3,9 +3,9 @@ ghost use Rattle.std.specs.Prelude.{◌≡◌, ◌≤◌, Ok, IfOk, MatchResult,
 ghost use Rattle.trace_text.specs.Accounts.{IsHeld};
 ghost use Rattle.trace_text.specs.Trace.{Fails, account_of, account_settled, added, spent};
 
-use crate::pieces::MOST_NUMBER;
 use crate::traces::{Name, Op, Tenant, TraceFault};
 use std::alloc::{AllocError, Global};
+use text_lines::MOST_NUMBER;
 
 /// The most tenants of a trace.
 pub const MOST_TENANTS: usize = 256;

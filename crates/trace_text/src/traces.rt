@@ -1,7 +1,7 @@
 //! What a trace is.
-use crate::scripts::NoMemory;
 use std::alloc::AllocError;
 use std::marker::Model;
+use text_lines::NoMemory;
 
 /// The bytes of a tenant's name.
 #[derive(Debug, Drop)]

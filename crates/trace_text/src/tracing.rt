@@ -15,12 +15,12 @@ use crate::accounts::Accounts;
 use crate::fields::{
     Action, Format, action_of, amount_of, cap_of, field, format_of, is_tenant, width, worker_of,
 };
-use crate::pieces::MOST_NUMBER;
 use crate::records::Records;
 use crate::tenants::MOST_TENANTS;
 use crate::traces::{Cut, Op, Row, Trace, TraceFault};
 use csv::ByteRecord;
 use std::alloc::Global;
+use text_lines::MOST_NUMBER;
 
 /// The most records of a trace after the first one.
 pub const MOST_RECORDS: u64 = 1_000_000;

@@ -2,7 +2,7 @@ use Rattle.std.proofs.Common.{◌≡◌, ◌∙◌, ap, sym, length}
 use Rattle.std.proofs.lemmas.List.FromFn.{length-map-range_with_len}
 use Rattle.running.specs.Running.{upto}
 use Rattle.fn_core.specs.declared.Start.{Start}
-use Rattle.trace_text.specs.Sound.{allowance}
+use Rattle.script_text.specs.Sound.{allowance}
 use Rattle.fn_rounds.proofs.Finished.{length_fresh, lines_inside}
 use Rattle.fn_rounds.proofs.script.open.Goals as goal
 

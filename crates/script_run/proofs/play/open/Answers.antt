@@ -1,6 +1,6 @@
 use Rattle.std.proofs.Common.{rules, ◌∙◌, ap, length}
 use Rattle.std.proofs.lemmas.List.FromFn.{length-map-range_with_len}
-use Rattle.trace_text.specs.Sound.{allowance}
+use Rattle.script_text.specs.Sound.{allowance}
 use Rattle.script_run.proofs.OneByOne.{ready-first}
 use Rattle.script_run.proofs.play.open.Goals as goal
 

@@ -1,7 +1,7 @@
 use Rattle.std.proofs.Common.{◌+◌, refl, drop}
 use Rattle.std.proofs.lemmas.Result.{err_from_is_err_and}
-use Rattle.trace_text.specs.declared.scripts.ScriptLine.{ScriptLine}
-use Rattle.trace_text.specs.declared.scripts.Order.TheVariants.{Add}
+use Rattle.script_text.specs.declared.scripts.ScriptLine.{ScriptLine}
+use Rattle.script_text.specs.declared.scripts.Order.TheVariants.{Add}
 use Rattle.script_run.specs.Slots.{present}
 use Rattle.script_run.proofs.Several.{after-here, after-next, refused-at, took-next, took-none}
 use Rattle.script_run.proofs.trial.do_lines.Goals as goal

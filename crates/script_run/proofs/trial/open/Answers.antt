@@ -1,6 +1,6 @@
 use Rattle.std.proofs.Common.{◌∙◌, ap, length}
 use Rattle.std.proofs.lemmas.List.FromFn.{length-map-range_with_len}
-use Rattle.trace_text.specs.Sound.{allowance}
+use Rattle.script_text.specs.Sound.{allowance}
 use Rattle.script_run.proofs.Several.{seated-first}
 use Rattle.script_run.proofs.trial.open.Goals as goal
 

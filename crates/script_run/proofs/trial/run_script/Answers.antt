@@ -1,7 +1,7 @@
 use Rattle.std.proofs.Common.{◌≡◌, ℕ, List, [], Option, All, inl, inr, length, sym, ap, subst, ◌∙◌}
 use Rattle.fn_core.specs.declared.Start.{Start}
-use Rattle.trace_text.specs.Sound.{HasPasses}
-use Rattle.trace_text.specs.declared.scripts.ScriptLine.{ScriptLine}
+use Rattle.script_text.specs.Sound.{HasPasses}
+use Rattle.script_text.specs.declared.scripts.ScriptLine.{ScriptLine}
 use Rattle.script_run.specs.declared.trial.Caller.{Caller}
 use Rattle.script_run.specs.Slots.{AllStand, HaveLeft, present}
 use Rattle.script_run.specs.Trial.{first_callers}

@@ -1,6 +1,0 @@
-use Rattle.std.proofs.Common.{◌≡◌, take}
-use Rattle.trace_text.specs.Sound.{allowances}
-use Rattle.trace_text.proofs.totals.allowances.Given as goal
-
-abbrev pub invariant-loop-line : goal.invariant-loop-line
-invariant-loop-line l = l.sums.items ≡ allowances (take l.line-index l.line-items) l.script.shape.passes
