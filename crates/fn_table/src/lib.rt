@@ -54,6 +54,3 @@ pub fn later_passes()
     ensures go_on { LaterPassesGoOn }
     ensures table { LaterPassesStayAtTheirTable }
 {}
-
-#[cfg(test)]
-mod tests;

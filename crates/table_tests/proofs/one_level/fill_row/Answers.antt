@@ -1,7 +1,7 @@
 use Rattle.std.proofs.Common.{◌∙◌, sym}
 use Rattle.fn_rows.specs.declared.Field.TheVariants.{Lo, Base, Prev}
 use Rattle.fn_table.proofs.Stages.{at_headed, at_lo, at_base, at_prev, may_fill_lo, may_fill_base, may_fill_prev, word_filled, still_mine, head_word}
-use Rattle.fn_table.proofs.tests.fill_row.Goals as goal
+use Rattle.table_tests.proofs.one_level.fill_row.Goals as goal
 
 pub fill-requires-clause-may : goal.fill-requires-clause-may
 fill-requires-clause-may c =

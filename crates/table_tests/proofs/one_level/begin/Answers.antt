@@ -1,7 +1,7 @@
 use Rattle.std.proofs.Common.{ℕ, ◌<◌, ◌∙◌, sym, ap, subst, arith}
 use Rattle.fn_core.specs.declared.Start.{Start}
 use Rattle.fn_table.proofs.Stages.{at_saw, at_told, at_waiting, may_see, may_announce, may_arrive, first_row_unused}
-use Rattle.fn_table.proofs.tests.begin.Goals as goal
+use Rattle.table_tests.proofs.one_level.begin.Goals as goal
 
 pub see-seen-requires-clause-may : goal.see-seen-requires-clause-may
 see-seen-requires-clause-may c =

@@ -1,7 +1,7 @@
 use Rattle.std.proofs.Common.{◌≡◌}
 use Rattle.fn_core.specs.Calls.{IsIdle}
 use Rattle.fn_table.specs.Seen.{IsOf}
-use Rattle.fn_table.proofs.tests.add_many.Given as goal
+use Rattle.table_tests.proofs.one_level.add_many.Given as goal
 
 abbrev pub invariant-loop : goal.invariant-loop
 invariant-loop l = record {

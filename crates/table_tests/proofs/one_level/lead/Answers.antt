@@ -1,5 +1,5 @@
 use Rattle.fn_table.proofs.Stages.{at_lead, at_shut, at_based, may_close, may_apply}
-use Rattle.fn_table.proofs.tests.lead.Goals as goal
+use Rattle.table_tests.proofs.one_level.lead.Goals as goal
 
 pub close_batch-end-requires-clause-may : goal.close_batch-end-requires-clause-may
 close_batch-end-requires-clause-may c = may_close c.args.table.now _ c.args.row _ (at_lead c.args.table.now _ _ c.args.row _ _ c.if-done-at.false c.requires.waits c.look-done.ensures)

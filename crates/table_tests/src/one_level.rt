@@ -9,10 +9,10 @@ ghost use Rattle.fn_core.specs.Calls.{IsIdle};
 ghost use Rattle.fn_table.specs.Seen.{IsOf, AreOpened};
 ghost use Rattle.fn_table.specs.Standing.{IsNumbered};
 
-use super::*;
 use fn_core::OpenFault;
 use fn_layout::{Field, Kind, Shape};
 use fn_model::NO_CAP;
+use fn_table::*;
 use std::alloc::{AllocError, Global};
 use std::sync::Wait;
 use std::test::*;

@@ -1,0 +1,5 @@
+//! Tests of a funnel's table: its opening and closing, and the steps of its passes.
+#![tactic(auto)]
+
+#[cfg(test)]
+mod one_level;
