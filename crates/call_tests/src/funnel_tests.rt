@@ -4,8 +4,8 @@ ghost use Rattle.fn_core.specs.Calls.{IsIdle};
 ghost use Rattle.fn_table.specs.Seen.{IsOf, AreOpened};
 ghost use Rattle.fn_table.specs.Standing.{IsNumbered};
 
-use super::*;
 use fn_climb::FunnelTable;
+use fn_funnel::*;
 use std::alloc::{AllocError, Global};
 use std::sync::Wait;
 use std::test::*;

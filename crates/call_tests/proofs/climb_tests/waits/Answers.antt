@@ -1,5 +1,5 @@
 use Rattle.fn_table.proofs.Later.{of_later}
-use Rattle.fn_climb.proofs.tests.waits.Goals as goal
+use Rattle.call_tests.proofs.climb_tests.waits.Goals as goal
 
 pub returns-in-NotYet : goal.returns-in-NotYet
 returns-in-NotYet c = of_later c.args.table.now c.args.pending c.in-NotYet.pending c.in-NotYet.ensures.later c.requires

@@ -1,7 +1,7 @@
 use Rattle.std.proofs.Common.{ℕ, sym, subst}
 use Rattle.fn_core.specs.Calls.{IsIdle}
 use Rattle.fn_table.proofs.Later.{of_later}
-use Rattle.fn_climb.proofs.tests.replies.Goals as goal
+use Rattle.call_tests.proofs.climb_tests.replies.Goals as goal
 
 pub returns-in-Ready : goal.returns-in-Ready
 returns-in-Ready c = (

@@ -1,5 +1,5 @@
 use Rattle.fn_table.proofs.Later.{of_later}
-use Rattle.fn_climb.proofs.tests.goes.Goals as goal
+use Rattle.call_tests.proofs.climb_tests.goes.Goals as goal
 
 pub returns-in-Going : goal.returns-in-Going
 returns-in-Going c = of_later c.args.table.now c.args.pending c.in-Going.pending c.in-Going.ensures.later c.requires

@@ -4,14 +4,14 @@ ghost use Rattle.fn_core.specs.Machine.{IsChange};
 ghost use Rattle.fn_core.specs.Calls.{IsIdle};
 ghost use Rattle.fn_table.specs.Seen.{IsOf, IsWhole, AreOpened};
 
-use super::*;
+use fn_climb::*;
 use fn_layout::Shape;
 use fn_model::NO_CAP;
 use fn_table::{direct, load_read};
 use std::test::*;
 
 // A call begins, and waits at its leaf.
-fn start(table: &FunnelTable, pass: Pass, kind: Kind, amount: u64) -> Option<Pending>
+pub(crate) fn start(table: &FunnelTable, pass: Pass, kind: Kind, amount: u64) -> Option<Pending>
     requires together { IsOf table.now pass }
     requires idle { IsIdle pass.seen pass.number }
     requires change { IsChange kind }
@@ -54,7 +54,7 @@ fn goes(table: &FunnelTable, pending: Pending) -> Option<Pending>
 }
 
 // So many of them.
-fn goes_on(table: &FunnelTable, mut pending: Pending, times: u32) -> Option<Pending>
+pub(crate) fn goes_on(table: &FunnelTable, mut pending: Pending, times: u32) -> Option<Pending>
     requires { IsOf table.now pending }
     ensures { IfSome result (λ p. IsOf table.now p) }
 {
@@ -76,7 +76,7 @@ fn halts(table: &FunnelTable, pending: Pending) -> Option<(Pending, Why)>
 }
 
 // A poll that ends the call.
-fn replies(table: &FunnelTable, pending: Pending) -> Option<(Pass, u64)>
+pub(crate) fn replies(table: &FunnelTable, pending: Pending) -> Option<(Pass, u64)>
     requires { IsOf table.now pending }
     ensures { IfSome result (λ r. IsOf table.now r.0 × IsIdle r.0.seen r.0.number) }
 {
@@ -98,7 +98,7 @@ fn waits(table: &FunnelTable, pending: Pending) -> Option<(Pending, Why)>
 }
 
 // The last of some passes.
-fn last_of(table: &FunnelTable, passes: &mut Vec<Pass>) -> Option<Pass>
+pub(crate) fn last_of(table: &FunnelTable, passes: &mut Vec<Pass>) -> Option<Pass>
     requires together { All (λ p. IsOf table.now p) passes.old.items }
     requires idle { All IsWhole passes.old.items }
     ensures together { All (λ p. IsOf table.now p) passes.new.items }
@@ -181,7 +181,7 @@ fn loses_once(table: &FunnelTable, passes: Vec<Pass>) -> Option<(Why, u64)>
 }
 
 // An addition of 1 whose poll ends it.
-fn adds_one(table: &FunnelTable, pass: Pass) -> Option<(Pass, u64)>
+pub(crate) fn adds_one(table: &FunnelTable, pass: Pass) -> Option<(Pass, u64)>
     requires together { IsOf table.now pass }
     requires idle { IsIdle pass.seen pass.number }
     ensures { IfSome result (λ r. IsOf table.now r.0 × IsIdle r.0.seen r.0.number) }
@@ -216,7 +216,7 @@ fn comes_back(
 }
 
 // Two additions of the last two passes begin.
-fn start_two(
+pub(crate) fn start_two(
     table: &FunnelTable,
     passes: &mut Vec<Pass>,
     amount: u64,
@@ -236,7 +236,7 @@ fn start_two(
 }
 
 // What two calls met, polled one after the other.
-fn both_reply(table: &FunnelTable, first: Pending, second: Pending) -> Option<(u64, u64)>
+pub(crate) fn both_reply(table: &FunnelTable, first: Pending, second: Pending) -> Option<(u64, u64)>
     requires { IsOf table.now first × IsOf table.now second }
 {
     let (_, one) = replies(table, first)?;

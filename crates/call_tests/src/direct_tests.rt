@@ -2,7 +2,7 @@ ghost use Rattle.std.specs.Prelude.{◌≡◌};
 ghost use Rattle.fn_table.specs.Seen.{IsOf};
 ghost use Rattle.fn_core.specs.Calls.{IsIdle};
 
-use super::*;
+use fn_direct::*;
 use fn_layout::Shape;
 use fn_model::NO_CAP;
 use std::test::*;
