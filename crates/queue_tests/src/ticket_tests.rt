@@ -1,10 +1,10 @@
 ghost use Rattle.std.specs.Prelude.{◌≡◌, ◌≤◌};
 ghost use Rattle.tq_queue.specs.Seen.{IsOf};
 
-use super::*;
 use std::sync::Wait;
 use std::test::*;
 use std::thread;
+use tq_queue::*;
 
 // The pass after a put, and whether it met what was wanted: the ticket, or that the queue is full.
 fn puts<R: Wait>(

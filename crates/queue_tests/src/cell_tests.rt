@@ -1,11 +1,11 @@
 ghost use Rattle.std.specs.Prelude.{◌<◌, ◌^◌, IfOk};
 ghost use Rattle.tq_cells.specs.Seen.{IsOf, IsSame};
 
-use super::*;
 use std::alloc::{AllocError, Global};
 use std::sync::Wait;
 use std::test::*;
 use std::thread;
+use tq_cells::*;
 
 type Bytes = Vec<u8>;
 

@@ -1,6 +1,6 @@
 use Rattle.std.proofs.Common.{◌≡◌}
 use Rattle.tq_queue.specs.Seen.{IsOf}
-use Rattle.tq_queue.proofs.tests.put_one.Given as goal
+use Rattle.queue_tests.proofs.ticket_tests.put_one.Given as goal
 
 abbrev pub invariant-loop : goal.invariant-loop
 invariant-loop g l =
