@@ -2,7 +2,7 @@ ghost use Rattle.std.specs.Prelude.{◌≡◌, All, IfSome};
 ghost use Rattle.quota_bucket.specs.Seen.{Belongs};
 ghost use Rattle.quota_bucket.specs.Opened.{fresh_desks, IsNew};
 
-use super::*;
+use quota_bucket::*;
 use std::alloc::{AllocError, Global};
 use std::sync::Wait;
 use std::test::*;

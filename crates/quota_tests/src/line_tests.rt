@@ -1,5 +1,5 @@
-use super::*;
 use std::test::Fail;
+use throttle_run::*;
 
 // The first fault of a text for one worker and a burst of 10.
 fn fault_of(rt: &HostRuntime, text: &[u8]) -> Option<ThrottleFault> {

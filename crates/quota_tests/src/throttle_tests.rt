@@ -1,9 +1,9 @@
-use super::*;
 use std::alloc::Global;
 use std::sync::Wait;
 use std::sync::atomic::{AtomicU64, Ordering};
 use std::test::Fail;
 use std::thread::Threads;
+use throttle_run::*;
 
 // The text of a run whose closures do nothing.
 fn text_of<R: Threads + Wait + Sync>(

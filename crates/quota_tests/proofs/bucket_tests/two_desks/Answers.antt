@@ -1,7 +1,7 @@
 use Rattle.std.proofs.Common.{Some}
 use Rattle.std.proofs.lemmas.List.Elements.{All-pop}
 use Rattle.quota_bucket.specs.Opened.{IsNew}
-use Rattle.quota_bucket.proofs.tests.two_desks.Goals as goal
+use Rattle.quota_tests.proofs.bucket_tests.two_desks.Goals as goal
 
 pub returns-clause-together : goal.returns-clause-together
 returns-clause-together c =

@@ -3,7 +3,7 @@ ghost use Rattle.std.specs.Prelude.{◌≤◌, IfSome};
 ghost use Rattle.trace_text.specs.Trace.{content};
 ghost use Rattle.trace_text.specs.SoundTrace.{IsSoundTrace};
 
-use super::*;
+use replay_run::*;
 use std::alloc::{AllocError, Global};
 use std::sync::Wait;
 use std::sync::atomic::{AtomicU64, Ordering};

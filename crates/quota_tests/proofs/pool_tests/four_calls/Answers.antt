@@ -1,7 +1,7 @@
 use Rattle.std.proofs.Common.{arith}
 use Rattle.fn_model.specs.declared.Kind.TheVariants.{Add, Sub, Read}
 use Rattle.quota_pool.proofs.Calling.{left_after}
-use Rattle.quota_pool.proofs.tests.four_calls.Goals as goal
+use Rattle.quota_tests.proofs.pool_tests.four_calls.Goals as goal
 
 pub direct-direct-requires-clause-amount : goal.direct-direct-requires-clause-amount
 direct-direct-requires-clause-amount g c =
