@@ -1,6 +1,5 @@
 //! Scripts on the table: the callers that a refusal hands back.
-use crate::play::PlayFault;
-use crate::trial::{Caller, trial_script};
+use script_run::{Caller, PlayFault, trial_script};
 use std::test::Fail;
 use trace_text::read_script;
 

@@ -6,9 +6,9 @@ ghost use Rattle.fn_table.specs.Claims.{Rests};
 ghost use Rattle.fn_rounds.specs.Lanes.{MayMakeAll};
 ghost use Rattle.fn_rounds.specs.Rounds.{AreStarted, AreAllInOrder};
 
-use super::*;
 use fn_climb::{Begun, Pending, Turn, begin};
 use fn_layout::Shape;
+use fn_rounds::*;
 use futures::task::Poll;
 use futures::test::MockTask;
 use std::alloc::{AllocError, AllocGlobal, Global};

@@ -1,9 +1,8 @@
 //! Whole runs on fakes of the streams.
-use super::*;
-use crate::runs::{Outcome, run_play};
 use edge_io::{MemSink, MemSource};
 use std::alloc::Global;
 use std::test::Fail;
+use tool_run::{Outcome, run_play, *};
 
 #[derive(Clone, Copy)]
 pub(crate) struct Row {

@@ -1,5 +1,5 @@
 //! Traces with their answers, and what is written of them.
-use super::*;
+use replay_report::*;
 use std::test::Fail;
 use trace_text::{make_drill, read_trace};
 

@@ -1,6 +1,5 @@
 //! What runs hand back beside their texts, whether or not the text could be written.
-use crate::runs::Outcome;
-use crate::tests::{Ran, words_of};
+use crate::play_tests::{Ran, words_of};
 use crate::trace_tests::run_words;
 use edge_io::{MemSink, MemSource};
 use gates::OpenGate;
@@ -9,6 +8,7 @@ use std::random::RandomSource;
 use std::sync::Wait;
 use std::test::Fail;
 use std::thread::Threads;
+use tool_run::Outcome;
 
 static SCRIPT: &str = "funnel 2 1 1 2 10\n0 add 5\n1 sub 3\n";
 

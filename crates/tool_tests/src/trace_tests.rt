@@ -1,6 +1,5 @@
 //! Whole runs of traces and of lines on fakes of the streams.
-use crate::runs::run;
-use crate::tests::{Ran, words_of};
+use crate::play_tests::{Ran, words_of};
 use edge_io::{MemSink, MemSource};
 use gates::{Gate, OpenGate};
 use quota_pool::Moved;
@@ -10,6 +9,7 @@ use std::sync::Wait;
 use std::sync::atomic::{AtomicBool, Ordering};
 use std::test::Fail;
 use std::thread::Threads;
+use tool_run::run;
 
 #[derive(Clone, Copy)]
 struct Row {

@@ -1,6 +1,8 @@
-use super::*;
-use reading::MOST;
 use std::test::Fail;
+use tool_words::*;
+
+// The greatest number of each field of a bucket.
+const MOST: u64 = 9_223_372_036_854_775_807;
 
 // Reads the words of a line.
 fn read(rt: &HostRuntime, line: &str) -> Result<Option<Command>, Fail> {

@@ -1,4 +1,4 @@
-use super::*;
+use fn_rounds::*;
 use std::alloc::{AllocGlobal, Global};
 use std::random::RandomSource;
 use std::sync::Wait;

@@ -1,5 +1,5 @@
 //! Whole runs of lines of takes that go through a bucket.
-use crate::tests::words_of;
+use crate::play_tests::words_of;
 use crate::trace_tests::{Crossing, USAGE, run_words};
 use edge_io::{MemSink, MemSource};
 use gates::OpenGate;
