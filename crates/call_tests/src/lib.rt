@@ -8,4 +8,6 @@ mod direct_tests;
 #[cfg(test)]
 mod funnel_tests;
 #[cfg(test)]
+mod level_tests;
+#[cfg(test)]
 mod shape_tests;
