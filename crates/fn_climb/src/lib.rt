@@ -17,6 +17,3 @@ pub use fn_layout::Kind;
 pub use fn_table::{FunnelTable, Pass};
 pub use pending::{Pending, Step};
 pub use polling::{Turn, poll_on};
-
-#[cfg(test)]
-mod tests;

@@ -130,6 +130,3 @@ fn try_exchange(table: &FunnelTable, pass: &mut Pass, kind: Kind, amount: u64) -
         Err(found) => Err(Lost { loaded, found }),
     }
 }
-
-#[cfg(test)]
-mod tests;

@@ -11,6 +11,3 @@ pub use fn_layout::{Kind, Shape, shape_for};
 pub use fn_table::{Book, FunnelTable, Note, Pass};
 pub use opening::Funnel;
 pub use waiting::{Added, Way, add, go_straight, sub};
-
-#[cfg(test)]
-mod tests;

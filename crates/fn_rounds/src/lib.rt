@@ -20,8 +20,3 @@ pub use lanes::{Lane, LaneDone, Orders, Replies};
 pub use orders::other_order;
 pub use script::rounds_text;
 pub use script_text::Script;
-
-#[cfg(test)]
-mod script_tests;
-#[cfg(test)]
-mod tests;

@@ -30,6 +30,3 @@ pub fn a_refill_is_its_additions()
 pub fn takes_stand()
     ensures { TakesStand }
 {}
-
-#[cfg(test)]
-mod tests;

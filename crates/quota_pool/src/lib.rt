@@ -19,6 +19,3 @@ pub use fn_funnel::{Blocked, Book, Shape, Way};
 pub use moved::Moved;
 pub use plans::Plan;
 pub use pool::QuotaPool;
-
-#[cfg(test)]
-mod tests;

@@ -21,6 +21,3 @@ pub use tq_queue::{NoMemory, QueueBook};
 pub fn relay_laws()
     ensures { RelaysAreOrdered }
 {}
-
-#[cfg(test)]
-mod tests;

@@ -4,8 +4,6 @@
 mod numbers;
 mod report;
 mod sums;
-#[cfg(test)]
-mod tests;
 
 pub use quota_pool::Moved;
 pub use report::{report_text, summary_text};

@@ -13,6 +13,3 @@ pub use gates::{Gate, OpenGate};
 pub use quota_pool::{Blocked, Moved, Way};
 pub use replaying::{Replayed, replay};
 pub use trace_text::{Cut, Name, NoMemory, Op, Row, Tenant, Trace};
-
-#[cfg(test)]
-mod tests;

@@ -4,8 +4,6 @@
 mod lines;
 mod on_table;
 mod play;
-#[cfg(test)]
-mod tests;
 mod trial;
 
 pub use fn_climb::Pending;

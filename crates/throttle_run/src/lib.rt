@@ -15,8 +15,3 @@ pub use lines::ThrottleLine;
 pub use quota_bucket::BucketBook;
 pub use reading::{read_lines, reading_laws};
 pub use throttling::throttle_text;
-
-#[cfg(test)]
-mod run_tests;
-#[cfg(test)]
-mod tests;

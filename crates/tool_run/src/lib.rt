@@ -3,16 +3,8 @@
 
 mod ending;
 mod handed;
-#[cfg(test)]
-mod handed_tests;
 mod runs;
-#[cfg(test)]
-mod takes_tests;
 mod telling;
-#[cfg(test)]
-mod tests;
-#[cfg(test)]
-mod trace_tests;
 
 pub use edge_io::{Sink, Source};
 pub use ending::{Ending, ErrorLine, INPUT_LIMIT, Refusal};

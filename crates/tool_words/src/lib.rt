@@ -3,8 +3,6 @@
 
 mod commands;
 mod reading;
-#[cfg(test)]
-mod tests;
 mod verbs;
 mod words;
 

@@ -45,6 +45,3 @@ pub fn tickets_stand_once<T>()
 pub fn one_seat_holds<T>()
     ensures { OneSeatHolds T }
 {}
-
-#[cfg(test)]
-mod tests;

@@ -25,6 +25,3 @@ pub fn answer_laws()
     ensures closed { BooksHaveAnswers }
     ensures shared { AnswersAreShared }
 {}
-
-#[cfg(test)]
-mod tests;

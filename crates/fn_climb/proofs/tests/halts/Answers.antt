@@ -1,5 +1,0 @@
-use Rattle.fn_table.proofs.Later.{of_later}
-use Rattle.fn_climb.proofs.tests.halts.Goals as goal
-
-pub returns-in-NotYet : goal.returns-in-NotYet
-returns-in-NotYet c = of_later c.args.table.now c.args.pending.pass c.in-NotYet.pending.pass c.in-NotYet.ensures.0.later c.requires
