@@ -111,8 +111,8 @@ impl Seats {
     {
         let at = tenant as usize;
         let funnel = pool.funnel(at);
-        let pass = take_at(&mut self.passes, at);
-        let (pass, before) = fn_funnel::go_straight(rt, funnel.table(), pass, Kind::Add, amount);
+        let mut pass = take_at(&mut self.passes, at);
+        let before = fn_funnel::go_straight(rt, funnel.table(), &mut pass, Kind::Add, amount);
         self.passes[at] = Some(pass);
         Moved {
             before,
