@@ -10,4 +10,4 @@ pub use fn_direct::{Lost, add_capped, add_direct, meet, note, read, sub_direct};
 pub use fn_layout::{Kind, Shape, shape_for};
 pub use fn_table::{Book, FunnelTable, Note, Pass};
 pub use opening::Funnel;
-pub use waiting::{Added, Way, add, go_straight, sub};
+pub use waiting::{Added, Way, add, add_on, go_straight, sub, sub_on};

@@ -39,53 +39,71 @@ pub struct Added {
 }
 
 /// Adds, up to the cap, and gives the integer before. It may wait for the callers of its batch.
-pub fn add<R: Wait>(rt: &R, funnel: &Funnel, pass: Pass, amount: u64) -> (Pass, Added)
+pub fn add<R: Wait>(rt: &R, funnel: &Funnel, mut pass: Pass, amount: u64) -> (Pass, Added)
     requires together { IsOf funnel.now pass }
     requires idle { IsIdle pass.seen pass.number }
     requires amount { MaySpend (state_in pass.seen) pass.number amount }
     ensures made { Made pass Add amount result.1.before result.0 }
     ensures way { Waited pass Add amount result.1 result.0 }
 {
-    call(rt, funnel.table(), pass, Kind::Add, amount)
+    let added = add_on(rt, funnel, &mut pass, amount);
+    (pass, added)
 }
 
 /// Subtracts, down to zero, and gives the integer before. It may wait for the callers of its batch.
-pub fn sub<R: Wait>(rt: &R, funnel: &Funnel, pass: Pass, amount: u64) -> (Pass, Added)
+pub fn sub<R: Wait>(rt: &R, funnel: &Funnel, mut pass: Pass, amount: u64) -> (Pass, Added)
     requires together { IsOf funnel.now pass }
     requires idle { IsIdle pass.seen pass.number }
     requires amount { MaySpend (state_in pass.seen) pass.number amount }
     ensures made { Made pass Sub amount result.1.before result.0 }
     ensures way { Waited pass Sub amount result.1 result.0 }
 {
+    let added = sub_on(rt, funnel, &mut pass, amount);
+    (pass, added)
+}
+
+/// Adds as `add` does, by a pass that stays where it is.
+pub fn add_on<R: Wait>(rt: &R, funnel: &Funnel, pass: &mut Pass, amount: u64) -> Added
+    requires together { IsOf funnel.now pass.old }
+    requires idle { IsIdle pass.old.seen pass.old.number }
+    requires amount { MaySpend (state_in pass.old.seen) pass.old.number amount }
+    ensures made { Made pass.old Add amount result.before pass.new }
+    ensures way { Waited pass.old Add amount result pass.new }
+{
+    call(rt, funnel.table(), pass, Kind::Add, amount)
+}
+
+/// Subtracts as `sub` does, by a pass that stays where it is.
+pub fn sub_on<R: Wait>(rt: &R, funnel: &Funnel, pass: &mut Pass, amount: u64) -> Added
+    requires together { IsOf funnel.now pass.old }
+    requires idle { IsIdle pass.old.seen pass.old.number }
+    requires amount { MaySpend (state_in pass.old.seen) pass.old.number amount }
+    ensures made { Made pass.old Sub amount result.before pass.new }
+    ensures way { Waited pass.old Sub amount result pass.new }
+{
     call(rt, funnel.table(), pass, Kind::Sub, amount)
 }
 
 // Makes a call through the funnel, or past it where it finds no row.
-fn call<R: Wait>(
-    rt: &R,
-    table: &FunnelTable,
-    mut pass: Pass,
-    kind: Kind,
-    amount: u64,
-) -> (Pass, Added)
-    requires together { IsOf table.now pass }
-    requires idle { IsIdle pass.seen pass.number }
+fn call<R: Wait>(rt: &R, table: &FunnelTable, pass: &mut Pass, kind: Kind, amount: u64) -> Added
+    requires together { IsOf table.now pass.old }
+    requires idle { IsIdle pass.old.seen pass.old.number }
     requires change { IsChange kind }
-    requires amount { MaySpend (state_in pass.seen) pass.number amount }
-    ensures made { Made pass kind amount result.1.before result.0 }
-    ensures way { Waited pass kind amount result.1 result.0 }
+    requires amount { MaySpend (state_in pass.old.seen) pass.old.number amount }
+    ensures made { Made pass.old kind amount result.before pass.new }
+    ensures way { Waited pass.old kind amount result pass.new }
 {
     let _in_range = pass.number();
-    match begin_on(table, &mut pass, kind, amount) {
+    match begin_on(table, pass, kind, amount) {
         Ok(course) => {
-            let before = await_reply(rt, table, &mut pass, course);
+            let before = await_reply(rt, table, pass, course);
             let way = Way::Funnel;
-            (pass, Added { before, way })
+            Added { before, way }
         }
         Err(blocked) => {
-            let (pass, before) = go_straight(rt, table, pass, kind, amount);
+            let before = go_straight(rt, table, pass, kind, amount);
             let way = Way::Direct(blocked);
-            (pass, Added { before, way })
+            Added { before, way }
         }
     }
 }
@@ -114,50 +132,42 @@ fn await_reply<R: Wait>(rt: &R, table: &FunnelTable, pass: &mut Pass, course: Co
 pub fn go_straight<R: Wait>(
     rt: &R,
     table: &FunnelTable,
-    mut pass: Pass,
+    pass: &mut Pass,
     kind: Kind,
     amount: u64,
-) -> (Pass, u64)
-    requires together { IsOf table.now pass }
-    requires idle { IsIdle pass.seen pass.number }
+) -> u64
+    requires together { IsOf table.now pass.old }
+    requires idle { IsIdle pass.old.seen pass.old.number }
     requires change { IsChange kind }
-    requires amount { MaySpend (state_in pass.seen) pass.number amount }
-    ensures later { IsLater pass result.0 }
-    ensures way { IsStraight (is_one_step kind pass.seen.start.cap) pass kind amount result.1 result.0 }
-    ensures called { HasCalled pass kind amount result.1 result.0 }
-    ensures alone { IsAlone result.0.seen (call_of pass kind amount) }
+    requires amount { MaySpend (state_in pass.old.seen) pass.old.number amount }
+    ensures later { IsLater pass.old pass.new }
+    ensures way { IsStraight (is_one_step kind pass.old.seen.start.cap) pass.old kind amount result pass.new }
+    ensures called { HasCalled pass.old kind amount result pass.new }
+    ensures alone { IsAlone pass.new.seen (call_of pass.old kind amount) }
 {
     if kind == Kind::Add && table.cap() == NO_CAP {
-        let before = add_direct(table, &mut pass, amount);
-        (pass, before)
+        add_direct(table, pass, amount)
     } else {
         exchange(rt, table, pass, kind, amount)
     }
 }
 
 // Makes a call by loads and exchanges of the main word, up to the first exchange that wins.
-fn exchange<R: Wait>(
-    rt: &R,
-    table: &FunnelTable,
-    pass: Pass,
-    kind: Kind,
-    amount: u64,
-) -> (Pass, u64)
-    requires together { IsOf table.now pass }
-    requires idle { IsIdle pass.seen pass.number }
+fn exchange<R: Wait>(rt: &R, table: &FunnelTable, pass: &mut Pass, kind: Kind, amount: u64) -> u64
+    requires together { IsOf table.now pass.old }
+    requires idle { IsIdle pass.old.seen pass.old.number }
     requires change { IsChange kind }
-    requires amount { MaySpend (state_in pass.seen) pass.number amount }
-    ensures later { IsLater pass result.0 }
-    ensures way { Exchanges pass kind amount result.1 result.0 }
-    ensures called { HasCalled pass kind amount result.1 result.0 }
-    ensures alone { IsAlone result.0.seen (call_of pass kind amount) }
+    requires amount { MaySpend (state_in pass.old.seen) pass.old.number amount }
+    ensures later { IsLater pass.old pass.new }
+    ensures way { Exchanges pass.old kind amount result pass.new }
+    ensures called { HasCalled pass.old kind amount result pass.new }
+    ensures alone { IsAlone pass.new.seen (call_of pass.old kind amount) }
 {
     let backoff = Backoff::new();
-    let mut pass = pass;
     let _in_range = pass.number();
     for _ in rt.forever() {
-        match try_exchange(table, &mut pass, kind, amount) {
-            Ok(before) => return (pass, before),
+        match try_exchange(table, pass, kind, amount) {
+            Ok(before) => return before,
             Err(_) => backoff.snooze(),
         }
     }

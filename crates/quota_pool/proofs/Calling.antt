@@ -2,7 +2,7 @@
 use Rattle.std.proofs.Common.{◌≡◌, ◌+◌, ◌<◌, ◌≤◌, ◌⊎◌, get_or, get_or-set_same, get_or-set_other, ◌-◌, min, true, false, ℕ, List, map, set, length, slice_get, Option, Some, None, Bool, Vec, refl, sym, ap, ◌∙◌, subst, arith, inl, inr}
 use Rattle.std.proofs.lemmas.List.{with_items_is, set-set, length-set}
 use Rattle.std.proofs.lemmas.Bool.{cases_eq}
-use Rattle.std.proofs.lemmas.Option.{slice_get_cases, slice_get_within, get_or_from_slice_get}
+use Rattle.std.proofs.lemmas.Option.{slice_get_cases, slice_get_within, slice_get_read, get_or_from_slice_get}
 use Rattle.std.specs.declared.alloc.Global.{Global}
 use Rattle.std.specs.Vec.{with_item, with_items}
 use Rattle.fn_model.specs.declared.Kind.{Kind}
@@ -23,10 +23,9 @@ use Rattle.fn_funnel.specs.Waiting.{Waited, IsStraight, is_one_step}
 use Rattle.quota_pool.specs.declared.moved.Moved.{Moved}
 use Rattle.quota_pool.specs.declared.closing.Closing.{Closing}
 use Rattle.quota_pool.specs.Rooms.{HasPlace, KeepsRoom}
-use Rattle.quota_pool.specs.Views.{PoolView, DeskView, held, AreFull, Belongs, left_in, left_at}
+use Rattle.quota_pool.specs.Views.{PoolView, DeskView, Belongs, left_in, left_at}
 use Rattle.quota_pool.specs.Claims.{MadeAt}
 use Rattle.quota_pool.specs.Calls.{Called, WentAt}
-use Rattle.quota_pool.proofs.Places.{held-map, full-map, held-set}
 
 -- where two lookups of one place have found something, they have found the same
 found_same : {A : Type 0} (o : Option A) (x y : A) → o ≡ Some x → o ≡ Some y → x ≡ y
@@ -72,53 +71,67 @@ module _ (pool : PoolView) (old : DeskView) (belongs : Belongs pool old) (tenant
   pub belongs_after : Belongs pool new
   belongs_after = record { tenants = length-set old.passes tenant q ∙ belongs.tenants; worker = belongs.worker; each = each }
 
-module _ (old : DeskView) (worker : ℕ) (v : Vec (Option PassView) Global) (shown ws : List (Option PassView)) (tenant : ℕ) (q : PassView)
-    (is : (record { worker = worker; passes = held v.items }) ≡ old) (full : AreFull v.items) (all : shown ≡ v.items) (taken : ws ≡ set shown tenant None) where
-  abbrev places : List (Option PassView)
-  places = (with_item (with_items v ws) tenant (Some q)).items
+-- the desk of the first worker keeps its room
+pub room_kept : (closing : Option Closing) (pool : PoolView) (old : DeskView) (tenant : ℕ) (kind : Kind) (amount : ℕ) (answer : Moved) (new : DeskView) → KeepsRoom closing old → MadeAt pool old tenant kind amount answer new → KeepsRoom closing new
+room_kept closing pool old tenant kind amount answer new keeps call =
+    let Keeps : DeskView → Type 0 = λ d. KeepsRoom closing d in
+    subst Keeps (sym call.desk) (λ worker.
+    let kept = keeps worker in
+    let suits = kept.2 in
+    let same : length (set old.passes tenant call.after) ≡ length old.passes = length-set old.passes tenant call.after in
+    let few : call.pass.seen.start.shape.passes ≤ suits.0 = subst (λ (p : PassView). p.seen.start.shape.passes ≤ suits.0) (get_or_from_slice_get old.passes tenant call.pass call.pass call.at) (suits.2 tenant call.pass (slice_get_within old.passes tenant call.pass call.at)) in
+    let after : call.after.seen.start.shape.passes ≤ suits.0 = subst (λ (s : Start). s.shape.passes ≤ suits.0) (sym call.made.same.2) few in (
+      kept.0,
+      kept.1,
+      (
+        suits.0,
+        subst (λ n. HasPlace suits.0 n kept.0) (sym same) suits.1,
+        λ k d within.
+            elim (cases_eq k tenant) [
+              | inl here ↦
+                  let inside : tenant < length old.passes = slice_get_within old.passes tenant call.pass call.at in
+                  subst (λ (p : PassView). p.seen.start.shape.passes ≤ suits.0) (sym (ap (λ n. get_or (set old.passes tenant call.after) n d) here ∙ get_or-set_same old.passes tenant call.after d inside)) after
+              | inr other ↦ subst (λ (p : PassView). p.seen.start.shape.passes ≤ suits.0) (sym (get_or-set_other old.passes tenant k call.after d other)) (suits.2 k d (omega (arith, within, same)))
+            ],
+      ),
+    ))
 
-  -- the pass stands in its place again
-  placed : places ≡ map Some (set (held v.items) tenant q)
-  placed =
-      let without : ws ≡ set v.items tenant None = taken ∙ ap (λ xs. set xs tenant None) all in
-      let len : length ws ≡ v.len = ap length without ∙ length-set v.items tenant None ∙ sym v.ok.0 in
-      ap (λ xs. set xs tenant (Some q)) (with_items_is v ws len ∙ without) ∙ set-set v.items tenant None (Some q) ∙ held-set v.items tenant q full
+module _ (old : DeskView) (worker : ℕ) (passes : List PassView) (tenant : ℕ) (p q : PassView) (is : (record { worker = worker; passes = passes }) ≡ old) (within : tenant < length old.passes) (had : p ≡ get_or passes tenant p) where
+  -- the desk has the pass in place of the one that it had
+  desk_after : (record { worker = worker; passes = set passes tenant q }) ≡ with_pass old tenant q
+  desk_after = ap (λ (d : DeskView). with_pass d tenant q) is
 
-  pub full_again : AreFull places
-  full_again = subst (λ xs. AreFull xs) (sym placed) (full-map (set (held v.items) tenant q))
-
-  -- the desk has it in place of the one that it had
-  desk_after : (record { worker = worker; passes = held places }) ≡ with_pass old tenant q
-  desk_after =
-      let here : held places ≡ set (held v.items) tenant q = ap held placed ∙ held-map (set (held v.items) tenant q) in
-      (λ i. record { worker = worker; passes = here i }) ∙ ap (λ (d : DeskView). with_pass d tenant q) is
-
-  -- it had the pass that was taken out
-  pub had : (p : PassView) → slice_get (held shown) tenant ≡ Some p → slice_get old.passes tenant ≡ Some p
-  had p found = ap (λ (d : DeskView). slice_get d.passes tenant) (sym is) ∙ ap (λ xs. slice_get (held xs) tenant) (sym all) ∙ found
+  -- it had the pass that made the call
+  pub had_at : slice_get old.passes tenant ≡ Some p
+  had_at = ap (λ (d : DeskView). slice_get d.passes tenant) (sym is) ∙ slice_get_read passes (length passes) tenant p refl (subst (λ (d : DeskView). tenant < length d.passes) (sym is) within) had
 
   -- what it claims of the call that was made
-  pub made_at : (pool : PoolView) → Belongs pool old → (p : PassView) (kind : Kind) (amount : ℕ) (answer : Moved) → slice_get (held shown) tenant ≡ Some p → Made p kind amount answer.before q
-      → answer.moved ≡ moved_amount p.seen.start.cap answer.before kind amount → MadeAt pool old tenant kind amount answer (record { worker = worker; passes = held places })
-  made_at pool belongs p kind amount answer found made moved = record {
+  pub made_at : (pool : PoolView) → Belongs pool old → (kind : Kind) (amount : ℕ) (answer : Moved) → Made p kind amount answer.before q
+      → answer.moved ≡ moved_amount p.seen.start.cap answer.before kind amount → MadeAt pool old tenant kind amount answer (record { worker = worker; passes = set passes tenant q })
+  made_at pool belongs kind amount answer made moved = record {
     pass = p;
     after = q;
-    at = had p found;
+    at = had_at;
     made = made;
     moved = moved;
     desk = desk_after;
-    together = subst (λ (d : DeskView). Belongs pool d) (sym desk_after) (belongs_after pool old belongs tenant p q kind amount answer.before (had p found) made);
+    together = subst (λ (d : DeskView). Belongs pool d) (sym desk_after) (belongs_after pool old belongs tenant p q kind amount answer.before had_at made);
   }
 
   -- and how it was made
-  pub went_at : (p : PassView) (kind : Kind) (through : Bool) (amount : ℕ) (answer : Moved) → slice_get (held shown) tenant ≡ Some p → Called p kind through amount answer q
-      → WentAt old tenant kind through amount answer (record { worker = worker; passes = held places })
-  went_at p kind through amount answer found called first last was is =
-      let at : slice_get old.passes tenant ≡ Some p = had p found in
-      let now : slice_get (set old.passes tenant q) tenant ≡ Some q = slice_get-set_same old.passes tenant q (slice_get_within old.passes tenant p at) in
-      let there : slice_get (set old.passes tenant q) tenant ≡ Some last = ap (λ (d : DeskView). slice_get d.passes tenant) (sym desk_after) ∙ is in
-      subst (λ (v : PassView). Called v kind through amount answer last) (found_same (slice_get old.passes tenant) p first at was)
-      (subst (λ (v : PassView). Called p kind through amount answer v) (found_same (slice_get (set old.passes tenant q) tenant) q last now there) called)
+  pub went_at : (kind : Kind) (through : Bool) (amount : ℕ) (answer : Moved) → Called p kind through amount answer q → WentAt old tenant kind through amount answer (record { worker = worker; passes = set passes tenant q })
+  went_at kind through amount answer called first last was is_last =
+      let there : slice_get (set old.passes tenant q) tenant ≡ Some q = slice_get-set_same old.passes tenant q (slice_get_within old.passes tenant p had_at) in
+      let here : slice_get (set old.passes tenant q) tenant ≡ Some last = ap (λ (d : DeskView). slice_get d.passes tenant) (sym desk_after) ∙ is_last in
+      subst (λ (v : PassView). Called v kind through amount answer last) (found_same (slice_get old.passes tenant) p first had_at was)
+      (subst (λ (v : PassView). Called p kind through amount answer v) (found_same (slice_get (set old.passes tenant q) tenant) q last there here) called)
+
+  -- the room that it keeps stays
+  pub room_stays : (closing : Option Closing) → KeepsRoom closing (record { worker = worker; passes = passes }) → (pool : PoolView) → Belongs pool old → (kind : Kind) (amount : ℕ) (answer : Moved) → Made p kind amount answer.before q
+      → answer.moved ≡ moved_amount p.seen.start.cap answer.before kind amount → KeepsRoom closing (record { worker = worker; passes = set passes tenant q })
+  room_stays closing keeps pool belongs kind amount answer made moved =
+      let Keeps : DeskView → Type 0 = λ d. KeepsRoom closing d in
+      room_kept closing pool old tenant kind amount answer (record { worker = worker; passes = set passes tenant q }) (subst Keeps is keeps) (made_at pool belongs kind amount answer made moved)
 
 -- the cap of a desk's pass is that of its table, and it rests
 pub cap_is : (pool : PoolView) (desk : DeskView) (tenant : ℕ) (table : TableView) (p : PassView) → Belongs pool desk → slice_get pool.tables tenant ≡ Some table → slice_get desk.passes tenant ≡ Some p → p.seen.start.cap ≡ table.start.cap
@@ -150,25 +163,3 @@ left_after pool old tenant kind amount answer new call =
     let inside = slice_get_within old.passes tenant call.pass call.at in
     let now : left_at new tenant ≡ left call.after = ap (λ (d : DeskView). left_at d tenant) call.desk ∙ ap left_in (slice_get-set_same old.passes tenant call.after inside) in
     ap (λ (n : ℕ). n + amount) now ∙ call.made.spent ∙ sym (ap left_in call.at)
-
--- the desk of the first worker keeps its room
-pub room_kept : (closing : Option Closing) (pool : PoolView) (old : DeskView) (tenant : ℕ) (kind : Kind) (amount : ℕ) (answer : Moved) (new : DeskView) → KeepsRoom closing old → MadeAt pool old tenant kind amount answer new → KeepsRoom closing new
-room_kept closing pool old tenant kind amount answer new keeps call =
-    let Keeps : DeskView → Type 0 = λ d. KeepsRoom closing d in
-    subst Keeps (sym call.desk) (λ worker.
-    let kept = keeps worker in
-    let same : length (set old.passes tenant call.after) ≡ length old.passes = length-set old.passes tenant call.after in
-    let few : call.pass.seen.start.shape.passes ≤ kept.1 = subst (λ (p : PassView). p.seen.start.shape.passes ≤ kept.1) (get_or_from_slice_get old.passes tenant call.pass call.pass call.at) (kept.4 tenant call.pass (slice_get_within old.passes tenant call.pass call.at)) in
-    let after : call.after.seen.start.shape.passes ≤ kept.1 = subst (λ (s : Start). s.shape.passes ≤ kept.1) (sym call.made.same.2) few in (
-      kept.0,
-      kept.1,
-      kept.2,
-      subst (λ n. HasPlace kept.1 n kept.0) (sym same) kept.3,
-      λ k d within.
-          elim (cases_eq k tenant) [
-            | inl here ↦
-                let inside : tenant < length old.passes = slice_get_within old.passes tenant call.pass call.at in
-                subst (λ (p : PassView). p.seen.start.shape.passes ≤ kept.1) (sym (ap (λ n. get_or (set old.passes tenant call.after) n d) here ∙ get_or-set_same old.passes tenant call.after d inside)) after
-            | inr other ↦ subst (λ (p : PassView). p.seen.start.shape.passes ≤ kept.1) (sym (get_or-set_other old.passes tenant k call.after d other)) (kept.4 k d (omega (arith, within, same)))
-          ],
-    ))

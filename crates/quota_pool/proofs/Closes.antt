@@ -1,10 +1,10 @@
 -- A pool's tenants when it closes.
-use Rattle.std.proofs.Common.{◌≡◌, ◌<◌, ◌≤◌, All, ℕ, zero, suc, List, [], ◌∷◌, ◌++◌, map, length, get_or, slice_get, Option, Some, None, Vec, refl, sym, ap, ◌∙◌, subst, arith, inl, inr}
-use Rattle.std.proofs.lemmas.List.{length-map, with_items_is, get_or-map}
+use Rattle.std.proofs.Common.{◌≡◌, ◌<◌, ◌≤◌, ◌⊎◌, All, ℕ, zero, suc, List, [], ◌∷◌, ◌++◌, map, length, get_or, slice_get, Option, Some, None, Vec, refl, sym, ap, ◌∙◌, subst, arith, inl, inr}
+use Rattle.std.proofs.lemmas.List.{length-map, get_or-map, append-nil}
 use Rattle.std.specs.declared.alloc.Global.{Global}
 use Rattle.std.specs.Prelude.{remove}
-use Rattle.std.specs.Vec.{with_items}
-use Rattle.std.proofs.lemmas.Option.{slice_get-map, slice_get_cases, slice_get_within, slice_get-get_or, get_or_from_slice_get}
+use Rattle.std.specs.Vec.{vec_capacity}
+use Rattle.std.proofs.lemmas.Option.{none-some, same_Some, slice_get-map, slice_get_cases, slice_get_within, get_or_from_slice_get}
 use Rattle.std.specs.Option.{option_map, option_to_list}
 use Rattle.running.specs.Running.{upto}
 use Rattle.running.proofs.Lists.{length_numbers}
@@ -14,11 +14,10 @@ use Rattle.fn_table.specs.Claims.{Rests}
 use Rattle.running.proofs.Numbers.{numbers_first}
 use Rattle.fn_core.specs.declared.Start.{Start}
 use Rattle.quota_pool.specs.declared.closing.Closing.{Closing}
-use Rattle.quota_pool.specs.declared.tenants.Tenant.{Tenant}
 use Rattle.quota_pool.specs.Views.{PoolView, DeskView, Belongs}
-use Rattle.quota_pool.specs.Rooms.{IsBare, HasPlace, KeepsRoom, IsEmptyFor, funnels, rooms, rooms_after}
-use Rattle.quota_pool.specs.Closed.{passes_at, MayClose, ClosesWith, AreClosedFrom}
-use Rattle.quota_pool.proofs.RoomSteps.{all_less, rooms_at}
+use Rattle.quota_pool.specs.Rooms.{IsBare, HasPlaceFor, Suits, KeepsRoom, contents, handed, rooms_after}
+use Rattle.quota_pool.specs.Closed.{passes_at, MayClose, ClosesWith, MayCloseAll, AreClosedFrom}
+use Rattle.quota_pool.proofs.RoomSteps.{all_less, rooms_at, after_count}
 
 -- The books are those of the pool's tables, in order, each closed with the desks' passes at its tenant
 pub record EachCloses (pool : PoolView) (desks : List DeskView) (books : List CoreLog) : Type 0 where
@@ -71,162 +70,134 @@ module _ (pool : PoolView) (t : ℕ) (table : TableView) (here : slice_get pool.
     idle = all_stand (λ p. IsIdle p.seen p.number) (λ p of idle. idle) ds all;
   }
 
--- all tenants of a pool, with the passes that the desks have handed in
-module _ (workers : ℕ) (old new : List Tenant) (ds : List DeskView) (empty : All (IsEmptyFor workers) old) (tables : funnels new ≡ funnels old) (rooms_are : rooms new ≡ rooms_after (rooms old) ds) where
-  abbrev pool : PoolView
-  pool = record { workers = workers; tables = funnels old }
+-- where each table may be closed with the passes of its number, all may be
+pub all_may_close : (tables : List TableView) (rooms : List (List PassView)) → length rooms ≡ length tables
+    → ((t : ℕ) (table : TableView) (passes : List PassView) → slice_get tables t ≡ Some table → slice_get rooms t ≡ Some passes → MayClose table passes) → MayCloseAll tables rooms
+all_may_close [] [] one_each may = tt
+all_may_close [] (r ∷ rs) one_each may = absurd (omega (arith, one_each))
+all_may_close (f ∷ fs) [] one_each may = absurd (omega (arith, one_each))
+all_may_close (f ∷ fs) (r ∷ rs) one_each may = (may 0 f r refl refl, all_may_close fs rs (omega (arith, one_each)) (λ t table passes here there. may (suc t) table passes here there))
 
-  table_at : (t : ℕ) (tenant : Tenant) → slice_get new t ≡ Some tenant → slice_get (funnels old) t ≡ Some tenant.funnel
-  table_at t tenant at = ap (λ fs. slice_get fs t) (sym tables) ∙ slice_get-map (λ (v : Tenant). v.funnel) new t ∙ ap (λ o. option_map (λ (v : Tenant). v.funnel) o) at
+-- there are as many books as tables
+length_closed : (tables : List TableView) (rooms : List (List PassView)) (books : List CoreLog) → AreClosedFrom tables rooms books → length books ≡ length tables
+length_closed [] [] [] closed = refl
+length_closed [] [] (b ∷ bs) closed = absurd closed
+length_closed [] (r ∷ rs) books closed = absurd closed
+length_closed (f ∷ fs) [] books closed = absurd closed
+length_closed (f ∷ fs) (r ∷ rs) [] closed = absurd closed
+length_closed (f ∷ fs) (r ∷ rs) (b ∷ bs) closed = ap suc (length_closed fs rs bs closed.1)
 
-  same_length : length new ≡ length old
-  same_length = sym (length-map new (λ (v : Tenant). v.funnel)) ∙ ap length tables ∙ length-map old (λ (v : Tenant). v.funnel)
-
-  -- each room has the desks' passes at its tenant
-  room_at : (t : ℕ) (tenant : Tenant) → slice_get new t ≡ Some tenant → tenant.room.items ≡ passes_at t ds
-  room_at t tenant at =
-      let within : t < length old = omega (arith, same_length, slice_get_within new t tenant at) in
-      let was = found_at old t within in
-      let none : was.0.room.items ≡ [] = let all = empty t was.0 within in subst (λ (v : Tenant). v.room.items ≡ []) (get_or_from_slice_get old t was.0 was.0 was.1) all.1 in
-      let first : slice_get (rooms old) t ≡ Some [] = slice_get-map (λ (v : Tenant). v.room.items) old t ∙ ap (λ o. option_map (λ (v : Tenant). v.room.items) o) was.1 ∙ ap (λ r. Some r) none in
-      let last : slice_get (rooms new) t ≡ Some (passes_at t ds) = ap (λ rs. slice_get rs t) rooms_are ∙ rooms_at (rooms old) ds t ∙ ap (λ o. option_map (λ r. r ++ passes_at t ds) o) first in
-      let shown : slice_get (rooms new) t ≡ Some tenant.room.items = slice_get-map (λ (v : Tenant). v.room.items) new t ∙ ap (λ o. option_map (λ (v : Tenant). v.room.items) o) at in
-      let same : Some tenant.room.items ≡ Some (passes_at t ds) = sym shown ∙ last in cc
-
-  count_at : (t : ℕ) (tenant : Tenant) → slice_get new t ≡ Some tenant → tenant.funnel.start.shape.passes ≡ workers
-  count_at t tenant at =
-      let within : t < length old = omega (arith, same_length, slice_get_within new t tenant at) in
-      let was = found_at old t within in
-      let all : was.0.funnel.start.shape.passes ≡ workers = subst (λ (v : Tenant). v.funnel.start.shape.passes ≡ workers) (get_or_from_slice_get old t was.0 was.0 was.1) (empty t was.0 within).0 in
-      let first : slice_get (funnels old) t ≡ Some was.0.funnel = slice_get-map (λ (v : Tenant). v.funnel) old t ∙ ap (λ o. option_map (λ (v : Tenant). v.funnel) o) was.1 in
-      let both : Some tenant.funnel ≡ Some was.0.funnel = sym (table_at t tenant at) ∙ first in
-      let same : tenant.funnel ≡ was.0.funnel = cc in
-      ap (λ (v : TableView). v.start.shape.passes) same ∙ all
-
-  all_may_close : All (Belongs pool) ds → map (λ d. d.worker) ds ≡ upto workers → All (λ tenant. MayClose tenant.funnel tenant.room.items) new
-  all_may_close all numbers k d within =
-      let tenant : Tenant = get_or new k d in
-      let at : slice_get new k ≡ Some tenant = slice_get-get_or new k d within in
-      subst (λ passes. MayClose tenant.funnel passes) (sym (room_at k tenant at)) (may_close pool k tenant.funnel (table_at k tenant at) ds all numbers (count_at k tenant at))
-
-  length_closed : (ts : List Tenant) (books : List CoreLog) → AreClosedFrom ts books → length books ≡ length ts
-  length_closed [] [] closed = refl
-  length_closed [] (b ∷ bs) closed = absurd closed
-  length_closed (t ∷ ts) [] closed = absurd closed
-  length_closed (t ∷ ts) (b ∷ bs) closed = ap suc (length_closed ts bs closed.1)
-
-  closed_at : (ts : List Tenant) (books : List CoreLog) (i : ℕ) (t : Tenant) (book : CoreLog) → AreClosedFrom ts books → slice_get ts i ≡ Some t → slice_get books i ≡ Some book → ClosesWith t.funnel t.room.items book
-  closed_at [] books i t book closed at there = let clash : None ≡ Some t = at in absurd (cc)
-  closed_at (x ∷ ts) [] i t book closed at there = absurd closed
-  closed_at (x ∷ ts) (b ∷ bs) zero t book closed at there =
-      let one : Some x ≡ Some t = at in let two : Some b ≡ Some book = there in
-      let same : x ≡ t = cc in let same_book : b ≡ book = cc in
-      subst (λ (v : Tenant). ClosesWith v.funnel v.room.items book) same (subst (λ (v : CoreLog). ClosesWith x.funnel x.room.items v) same_book closed.0)
-  closed_at (x ∷ ts) (b ∷ bs) (suc i) t book closed at there = closed_at ts bs i t book closed.1 at there
-
-  -- so the books are the pool's
-  all_closed : (books : List CoreLog) → AreClosedFrom new books → EachCloses pool ds books
-  all_closed books closed = record {
-    tenants = length_closed new books closed ∙ sym (length-map new (λ (v : Tenant). v.funnel)) ∙ ap length tables;
-    each = λ t table book here there.
-        let within : t < length new = omega (arith, same_length, length-map old (λ (v : Tenant). v.funnel), slice_get_within (funnels old) t table here) in
-        let tenant = found_at new t within in
-        let both : Some tenant.0.funnel ≡ Some table = sym (table_at t tenant.0 tenant.1) ∙ here in
-        let same : tenant.0.funnel ≡ table = cc in
-        let With : TableView → List PassView → Type 0 = λ f passes. ClosesWith f passes book in
-        subst (λ f. With f (passes_at t ds)) same (subst (λ passes. With tenant.0.funnel passes) (room_at t tenant.0 tenant.1) (closed_at new books t tenant.0 book closed tenant.1 there));
-  }
-
--- one more tenant is closed
-pub one_more_closed : (ts : List Tenant) (books : List CoreLog) (t : Tenant) (book : CoreLog) → AreClosedFrom ts books → ClosesWith t.funnel t.room.items book → AreClosedFrom (ts ++ t ∷ []) (books ++ book ∷ [])
-one_more_closed [] [] t book closed here = (here, tt)
-one_more_closed [] (b ∷ bs) t book closed here = absurd closed
-one_more_closed (x ∷ ts) [] t book closed here = absurd closed
-one_more_closed (x ∷ ts) (b ∷ bs) t book closed here = (closed.0, one_more_closed ts bs t book closed.1 here)
+-- each table's book
+closed_at : (tables : List TableView) (rooms : List (List PassView)) (books : List CoreLog) (t : ℕ) (table : TableView) (passes : List PassView) (book : CoreLog) → AreClosedFrom tables rooms books
+    → slice_get tables t ≡ Some table → slice_get rooms t ≡ Some passes → slice_get books t ≡ Some book → ClosesWith table passes book
+closed_at [] rooms books t table passes book closed here room there = absurd (none-some table here)
+closed_at (f ∷ fs) [] books t table passes book closed here room there = absurd (none-some passes room)
+closed_at (f ∷ fs) (r ∷ rs) [] t table passes book closed here room there = absurd (none-some book there)
+closed_at (f ∷ fs) (r ∷ rs) (b ∷ bs) zero table passes book closed here room there =
+    subst (λ (x : TableView). ClosesWith x passes book) (same_Some f table here)
+    (subst (λ (x : List PassView). ClosesWith f x book) (same_Some r passes room) (subst (λ (x : CoreLog). ClosesWith f r x) (same_Some b book there) closed.0))
+closed_at (f ∷ fs) (r ∷ rs) (b ∷ bs) (suc t) table passes book closed here room there = closed_at fs rs bs t table passes book closed.1 here room there
 
 -- a list begins with its first element
 pub first_and_others : {A : Type 0} (xs : List A) (x : A) (ys : List A) → 0 < length xs → x ≡ get_or xs 0 x → ys ≡ remove xs 0 → xs ≡ x ∷ ys
 first_and_others [] x ys some is others = absurd (omega arith)
 first_and_others (z ∷ zs) x ys some is others = (λ i. sym is i ∷ sym others i)
 
--- where tables have so many passes, the tenants that have them and no pass in their rooms are empty
-pub all_empty : (workers : ℕ) (tenants : List Tenant) (tables : List TableView) → funnels tenants ≡ tables → All (λ (table : TableView). table.start.shape.passes ≡ workers) tables → All (λ (tenant : Tenant). tenant.room.items ≡ []) tenants → All (IsEmptyFor workers) tenants
-all_empty workers tenants tables are counts empty k d within =
-    let place : get_or (funnels tenants) k d.funnel ≡ (get_or tenants k d).funnel = get_or-map (λ (t : Tenant). t.funnel) tenants k d d.funnel within in
-    let count = counts k d.funnel (omega (arith, within, sym (ap length are) ∙ length-map tenants (λ (t : Tenant). t.funnel))) in
-    (subst (λ (t : TableView). t.start.shape.passes ≡ workers) (ap (λ ts. get_or ts k d.funnel) (sym are) ∙ place) count, empty k d within)
+-- a bare room, when the desks have handed in their passes
+room_filled : (workers : ℕ) (bare : List (Vec PassView Global)) (ds : List DeskView) → All (IsBare workers) bare → (t : ℕ) → t < length bare → slice_get (rooms_after (contents bare) ds) t ≡ Some (passes_at t ds)
+room_filled workers bare ds all t within =
+    let found = found_at bare t within in
+    let none : found.0.items ≡ [] = subst (λ (r : Vec PassView Global). r.items ≡ []) (get_or_from_slice_get bare t found.0 found.0 found.1) (all t found.0 within).0 in
+    let first : slice_get (contents bare) t ≡ Some [] = slice_get-map (λ (r : Vec PassView Global). r.items) bare t ∙ ap (λ o. option_map (λ (r : Vec PassView Global). r.items) o) found.1 ∙ ap (λ r. Some r) none in
+    rooms_at (contents bare) ds t ∙ ap (λ o. option_map (λ r. r ++ passes_at t ds) o) first
 
--- the first desk of a pool that closes
-module _ (self : PoolView) (desks : List DeskView) (first : DeskView) (others : List DeskView) (some : 1 ≤ self.workers) (together : All (Belongs self) desks) (numbers : map (λ d. d.worker) desks ≡ upto self.workers)
-    (is : first ≡ get_or desks 0 first) (rest : others ≡ remove desks 0) where
+-- a pool that closes, with its first desk
+module _ (self : PoolView) (desks : List DeskView) (first : DeskView) (others : List DeskView) (some : 1 ≤ self.workers) (counts : All (λ (table : TableView). table.start.shape.passes ≡ self.workers) self.tables)
+    (together : All (Belongs self) desks) (numbers : map (λ d. d.worker) desks ≡ upto self.workers) (is : first ≡ get_or desks 0 first) (rest : others ≡ remove desks 0) where
   pub count : length desks ≡ self.workers
   count = count_of_desks desks self.workers numbers
 
-  pub parts : desks ≡ first ∷ others
-  parts = first_and_others desks first others (omega (arith, count)) is rest
+  parts : desks ≡ first ∷ others
+  parts = first_and_others desks first others (omega (arith, count, some)) is rest
 
-  pub first_belongs : Belongs self first
-  first_belongs = subst (Belongs self) (sym is) (together 0 first (omega (arith, count)))
+  first_belongs : Belongs self first
+  first_belongs = subst (Belongs self) (sym is) (together 0 first (omega (arith, count, some)))
 
-  pub first_worker : first.worker ≡ 0
+  first_worker : first.worker ≡ 0
   first_worker =
-      let here : get_or (map (λ (d : DeskView). d.worker) desks) 0 0 ≡ first.worker = get_or-map (λ (d : DeskView). d.worker) desks 0 first 0 (omega (arith, count)) ∙ ap (λ (d : DeskView). d.worker) (sym is) in
+      let here : get_or (map (λ (d : DeskView). d.worker) desks) 0 0 ≡ first.worker = get_or-map (λ (d : DeskView). d.worker) desks 0 first 0 (omega (arith, count, some)) ∙ ap (λ (d : DeskView). d.worker) (sym is) in
       let zeroth : get_or (upto self.workers) 0 0 ≡ 0 = ap (λ ns. get_or ns 0 0) (numbers_first 0 self.workers (omega (arith, some))) in
       sym here ∙ ap (λ ns. get_or ns 0 0) numbers ∙ zeroth
 
-  -- .. keeps the room for it
-  pub first_room : (closing : Option Closing) (kept : Closing) → KeepsRoom closing first → closing ≡ Some kept → (workers : ℕ) × HasPlace workers (length first.passes) kept × All (λ p. p.seen.start.shape.passes ≤ workers) first.passes
-  first_room closing kept keeps here =
-      let all = keeps first_worker in
-      let both : Some kept ≡ Some all.0 = sym here ∙ all.2 in
-      let same : kept ≡ all.0 = cc in
-      (all.1, subst (λ (c : Closing). HasPlace all.1 (length first.passes) c) (sym same) all.3, all.4)
+  -- the first desk keeps the room for closing
+  pub first_room : (closing : Option Closing) → KeepsRoom closing first → (kept : Closing) × (closing ≡ Some kept) × Suits kept first.passes
+  first_room closing keeps = keeps first_worker
 
-  -- .. which has place for each of its tables
-  pub place_for_each : (rooms : List (Vec PassView Global)) (workers : ℕ) → All (IsBare workers) rooms → All (λ p. p.seen.start.shape.passes ≤ workers) first.passes → All (λ (table : TableView). All (IsBare table.start.shape.passes) rooms) self.tables
-  place_for_each rooms workers bare few k d within =
-      let table : TableView = get_or self.tables k d in
-      let at : slice_get self.tables k ≡ Some table = slice_get-get_or self.tables k d within in
-      let inside : k < length first.passes = omega (arith, within, first_belongs.tenants) in
-      let found = found_at first.passes k inside in
-      let stands = first_belongs.each k table found.0 at found.1 in
-      let most : found.0.seen.start.shape.passes ≤ workers = subst (λ (p : PassView). p.seen.start.shape.passes ≤ workers) (get_or_from_slice_get first.passes k found.0 found.0 found.1) (few k found.0 inside) in
-      let fits : table.start.shape.passes ≤ workers = subst (λ (s : Start). s.shape.passes ≤ workers) stands.0.1 most in
-      λ j room below. let here = bare j room below in (here.0, omega (arith, here.1, fits))
+  module _ (closing : Option Closing) (kept : Closing) (keeps : KeepsRoom closing first) (here : closing ≡ Some kept) where
+    suits : Suits kept first.passes
+    suits =
+        let all = keeps first_worker in
+        let both : Some all.0 ≡ Some kept = sym all.1 ∙ here in
+        subst (λ (c : Closing). Suits c first.passes) (same_Some all.0 kept both) all.2
 
-  -- each desk has a pass of each tenant
-  pub one_each : (tenants : List Tenant) → funnels tenants ≡ self.tables → All (λ (desk : DeskView). length desk.passes ≡ length tenants) (first ∷ others)
-  one_each tenants are =
-      subst (λ ds. All (λ (desk : DeskView). length desk.passes ≡ length tenants) ds) parts (λ k d within.
-      (together k d within).tenants ∙ ap length (sym are) ∙ length-map tenants (λ (t : Tenant). t.funnel))
+    -- one for each tenant
+    rooms_count : length kept.rooms.items ≡ length self.tables
+    rooms_count = suits.1.rooms ∙ first_belongs.tenants
 
--- the tenants of a pool as it closes, once its desks have handed in their passes
-module _ (self : PoolView) (v : Vec Tenant Global) (shown new : List Tenant) (ds : List DeskView) (counts : All (λ (table : TableView). table.start.shape.passes ≡ self.workers) self.tables) (are : funnels v.items ≡ self.tables)
-    (none : All (λ (tenant : Tenant). tenant.room.items ≡ []) v.items) (all : shown ≡ v.items) (tables : funnels new ≡ funnels shown) (rooms_are : rooms new ≡ rooms_after (rooms shown) ds) (together : All (Belongs self) ds) (numbers : map (λ d. d.worker) ds ≡ upto self.workers) where
-  empty : All (IsEmptyFor self.workers) v.items
-  empty = all_empty self.workers v.items self.tables are counts none
+    pub first_each : length first.passes ≡ length kept.rooms.items
+    first_each = sym suits.1.rooms
 
-  tables_now : funnels new ≡ funnels v.items
-  tables_now = tables ∙ ap (λ ts. funnels ts) all
+    pub others_each : All (λ (desk : DeskView). length desk.passes ≡ length kept.rooms.items) others
+    others_each = all_less (λ (desk : DeskView). length desk.passes ≡ length kept.rooms.items) first others
+        (subst (λ ds. All (λ (desk : DeskView). length desk.passes ≡ length kept.rooms.items) ds) parts (λ k d within. (together k d within).tenants ∙ sym rooms_count))
 
-  rooms_now : rooms new ≡ rooms_after (rooms v.items) ds
-  rooms_now = rooms_are ∙ ap (λ ts. rooms_after (rooms ts) ds) all
+    -- .. with place for the passes of all desks
+    pub places : All (HasPlaceFor (suc (length others))) kept.rooms.items
+    places k d within =
+        let inside : k < length self.tables = omega (arith, within, rooms_count) in
+        let table = found_at self.tables k inside in
+        let pass = found_at first.passes k (omega (arith, inside, first_belongs.tenants)) in
+        let stands = first_belongs.each k table.0 pass.0 table.1 pass.1 in
+        let most : pass.0.seen.start.shape.passes ≤ suits.0 = subst (λ (p : PassView). p.seen.start.shape.passes ≤ suits.0) (get_or_from_slice_get first.passes k pass.0 pass.0 pass.1) (suits.2 k pass.0 (omega (arith, inside, first_belongs.tenants))) in
+        let fits : table.0.start.shape.passes ≤ suits.0 = subst (λ (s : Start). s.shape.passes ≤ suits.0) stands.0.1 most in
+        let all : table.0.start.shape.passes ≡ self.workers = subst (λ (x : TableView). x.start.shape.passes ≡ self.workers) (get_or_from_slice_get self.tables k table.0 table.0 table.1) (counts k table.0 inside) in
+        let bare = suits.1.bare k d within in
+        let none : length (get_or kept.rooms.items k d).items ≡ 0 = ap length bare.0 in
+        let size : suits.0 ≤ vec_capacity (get_or kept.rooms.items k d) = bare.1 in
+        let desks_are : suc (length others) ≡ self.workers = sym (ap length parts) ∙ count in
+        omega (arith, fits, all, none, size, desks_are)
 
-  whole : (with_items v new).items ≡ new
-  whole = with_items_is v new (same_length self.workers v.items new ds empty tables_now rooms_now ∙ sym v.ok.0)
+    pub books_place : length self.tables ≤ vec_capacity kept.books
+    books_place = omega (arith, suits.1.books.1, first_belongs.tenants)
 
-  shows : (record { workers = self.workers; tables = funnels v.items }) ≡ self
-  shows = (λ i. record { workers = self.workers; tables = are i })
+    pub books_none : kept.books.items ≡ []
+    books_none = suits.1.books.0
 
-  pub tenants_count : length (with_items v new).items ≡ length self.tables
-  tenants_count = ap length whole ∙ same_length self.workers v.items new ds empty tables_now rooms_now ∙ sym (length-map v.items (λ (t : Tenant). t.funnel)) ∙ ap length are
+    module _ (rooms : List (List PassView)) (filled : rooms ≡ rooms_after (handed (contents kept.rooms.items) first.passes) others) where
+      rooms_are : rooms ≡ rooms_after (contents kept.rooms.items) desks
+      rooms_are = filled ∙ ap (λ ds. rooms_after (contents kept.rooms.items) ds) (sym parts)
 
-  pub tenants_ready : All (λ tenant. MayClose tenant.funnel tenant.room.items) (with_items v new).items
-  tenants_ready =
-      let Ready : List Tenant → Type 0 = λ ts. All (λ tenant. MayClose tenant.funnel tenant.room.items) ts in
-      let here : All (Belongs (record { workers = self.workers; tables = funnels v.items })) ds = subst (λ (p : PoolView). All (Belongs p) ds) (sym shows) together in
-      subst Ready (sym whole) (all_may_close self.workers v.items new ds empty tables_now rooms_now here numbers)
+      room_has : (t : ℕ) (table : TableView) → slice_get self.tables t ≡ Some table → slice_get rooms t ≡ Some (passes_at t desks)
+      room_has t table at = ap (λ rs. slice_get rs t) rooms_are ∙ room_filled suits.0 kept.rooms.items desks suits.1.bare t (omega (arith, rooms_count, slice_get_within self.tables t table at))
 
-  pub pool_closed : (books : List CoreLog) → AreClosedFrom (with_items v new).items books → EachCloses self ds books
-  pool_closed books closed =
-      subst (λ (p : PoolView). EachCloses p ds books) shows (all_closed self.workers v.items new ds empty tables_now rooms_now books (subst (λ (ts : List Tenant). AreClosedFrom ts books) whole closed))
+      -- so each table may be closed with the passes in its room
+      pub tables_ready : MayCloseAll self.tables rooms
+      tables_ready = all_may_close self.tables rooms (ap length rooms_are ∙ after_count (contents kept.rooms.items) desks ∙ length-map kept.rooms.items (λ (r : Vec PassView Global). r.items) ∙ rooms_count) (λ t table passes at room.
+          let all : table.start.shape.passes ≡ self.workers = subst (λ (x : TableView). x.start.shape.passes ≡ self.workers) (get_or_from_slice_get self.tables t table table at) (counts t table (slice_get_within self.tables t table at)) in
+          subst (λ ps. MayClose table ps) (same_Some (passes_at t desks) passes (sym (room_has t table at) ∙ room)) (may_close self t table at desks together numbers all))
+
+      -- and the books are the pool's
+      pub pool_closed : (books : List CoreLog) → AreClosedFrom self.tables rooms books → EachCloses self desks books
+      pool_closed books closed = record {
+        tenants = length_closed self.tables rooms books closed;
+        each = λ t table book at there. closed_at self.tables rooms books t table (passes_at t desks) book closed at (room_has t table at) there;
+      }
+
+-- where no table is left, or no room, all are closed
+pub all_done : (tables : List TableView) (rooms : List (List PassView)) (all : List TableView) (whole : List (List PassView)) (books : List CoreLog) → MayCloseAll tables rooms → (tables ≡ []) ⊎ (rooms ≡ [])
+    → ((more : List CoreLog) → AreClosedFrom tables rooms more → AreClosedFrom all whole (books ++ more)) → AreClosedFrom all whole books
+all_done [] [] all whole books may none closed = subst (λ bs. AreClosedFrom all whole bs) (append-nil books) (closed [] tt)
+all_done [] (r ∷ rs) all whole books may none closed = absurd may
+all_done (f ∷ fs) [] all whole books may none closed = absurd may
+all_done (f ∷ fs) (r ∷ rs) all whole books may (inl none) closed = let clash = ap length none in absurd (omega (arith, clash))
+all_done (f ∷ fs) (r ∷ rs) all whole books may (inr none) closed = let clash = ap length none in absurd (omega (arith, clash))

@@ -1,6 +1,6 @@
 pub mod Books
 pub mod Calling
 pub mod Closes
+pub mod Laws
 pub mod Opens
-pub mod Places
 pub mod RoomSteps

@@ -3,9 +3,9 @@ use Rattle.std.proofs.Common.{◌≡◌, ◌≢◌, ◌+◌, ◌<◌, ◌≤◌,
 use Rattle.std.specs.Prelude.{nat_le, nat_lt, if◌then◌else◌, replicate}
 use Rattle.std.proofs.lemmas.Bool.Decides.{nat_tests}
 use Rattle.std.proofs.lemmas.List.Elements.{All-append}
-use Rattle.std.proofs.lemmas.List.{map-append, length-map, with_items_is}
+use Rattle.std.proofs.lemmas.List.{map-append, length-map, get_or-map}
 use Rattle.std.specs.declared.alloc.Global.{Global}
-use Rattle.std.specs.Vec.{with_items}
+use Rattle.std.specs.Vec.{vec_capacity}
 use Rattle.std.proofs.lemmas.Option.{slice_get-map, get_or_from_slice_get}
 use Rattle.std.specs.Option.{option_map}
 use Rattle.running.specs.Running.{numbers_from, upto}
@@ -25,29 +25,44 @@ use Rattle.quota_pool.specs.declared.faults.PoolFault.{PoolFault}
 use Rattle.quota_pool.specs.declared.faults.PoolFault.TheVariants.{TooMuch, AboveCap}
 use Rattle.quota_pool.specs.Faults.{too_much_from, above_cap_from, first_of_two, pool_fault}
 use Rattle.quota_pool.specs.declared.closing.Closing.{Closing}
-use Rattle.quota_pool.specs.Rooms.{HasPlace, KeepsRoom}
+use Rattle.quota_pool.specs.Rooms.{HasPlace, HasPlaceFor, IsBare, Suits, contents, handed}
 use Rattle.quota_pool.specs.Views.{PoolView, DeskView, Belongs}
-use Rattle.quota_pool.specs.Opened.{fresh_desk, with_more, dealt, IsNew, IsOpen, AreOpen, IsOpened}
+use Rattle.quota_pool.specs.Opened.{fresh_desk, fresh_hand, seated, IsNew, IsOpen, AreOpen, IsOpened}
 use Rattle.quota_pool.proofs.Closes.{all_more, found_at}
+use Rattle.quota_pool.proofs.RoomSteps.{all_less}
 
--- one more desk has got its pass
-pub more_dealt : (ds : List DeskView) (i : ℕ) (d e : DeskView) (p : PassView) (ps : List PassView) → i < length ds → e ≡ with_more (get_or ds i d) p
-    → take (suc i) (set ds i e) ++ dealt (drop (suc i) (set ds i e)) ps ≡ take i ds ++ dealt (drop i ds) (p ∷ ps)
-more_dealt [] i d e p ps within is = absurd (omega arith)
-more_dealt (x ∷ xs) zero d e p ps within is = ap (λ desk. desk ∷ dealt xs ps) is
-more_dealt (x ∷ xs) (suc i) d e p ps within is = ap (λ more. x ∷ more) (more_dealt xs i d e p ps (omega arith) is)
+-- the rooms of workers that get a new table's passes
+pub handed_fresh : (tables : List TableView) (table : TableView) (from count : ℕ) → handed (map (fresh_hand tables) (numbers_from from count)) (map (fresh table) (numbers_from from count)) ≡ map (fresh_hand (tables ++ table ∷ [])) (numbers_from from count)
+handed_fresh tables table from zero = refl
+handed_fresh tables table from (suc count) =
+    let here : fresh_hand tables from ++ fresh table from ∷ [] ≡ fresh_hand (tables ++ table ∷ []) from = sym (map-append (λ t. fresh t from) tables (table ∷ [])) in
+    (λ i. here i ∷ handed_fresh tables table (suc from) count i)
 
--- with nothing to deal, desks stay as they are
-pub none_dealt : (ds : List DeskView) → dealt ds [] ≡ ds
-none_dealt [] = refl
-none_dealt (d ∷ ds) = refl
+-- bare rooms are those of workers without a table
+bare_hands : (rooms : List (Vec PassView Global)) (places from : ℕ) → All (IsBare places) rooms → contents rooms ≡ map (fresh_hand []) (numbers_from from (length rooms))
+bare_hands [] places from bare = refl
+bare_hands (room ∷ rooms) places from bare =
+    let none : room.items ≡ [] = (bare 0 room (omega arith)).0 in
+    (λ i. none i ∷ bare_hands rooms places (suc from) (all_less (IsBare places) room rooms bare) i)
 
--- desks that get a new table's passes
-pub dealt_fresh : (tables : List TableView) (table : TableView) (from count : ℕ) → dealt (map (fresh_desk tables) (numbers_from from count)) (map (fresh table) (numbers_from from count)) ≡ map (fresh_desk (tables ++ table ∷ [])) (numbers_from from count)
-dealt_fresh tables table from zero = refl
-dealt_fresh tables table from (suc count) =
-    let here : with_more (fresh_desk tables from) (fresh table from) ≡ fresh_desk (tables ++ table ∷ []) from = let e = map-append (λ t. fresh t from) tables (table ∷ []) in (λ i. record { worker = from; passes = sym e i }) in
-    (λ i. here i ∷ dealt_fresh tables table (suc from) count i)
+pub hands_bare : (rooms : List (Vec PassView Global)) (places workers : ℕ) → length rooms ≡ workers → All (IsBare places) rooms → contents rooms ≡ map (fresh_hand []) (upto workers)
+hands_bare rooms places workers count bare = bare_hands rooms places 0 bare ∙ ap (λ n. map (fresh_hand []) (upto n)) count
+
+-- they have place for so many passes
+pub bare_places : (rooms : List (Vec PassView Global)) (places : ℕ) → All (IsBare places) rooms → All (HasPlaceFor places) rooms
+bare_places rooms places bare k d within =
+    let here = bare k d within in
+    let none : length (get_or rooms k d).items ≡ 0 = ap length here.0 in
+    let size : places ≤ vec_capacity (get_or rooms k d) = here.1 in
+    omega (arith, none, size)
+
+-- seated workers with such passes are the desks
+seated_fresh : (tables : List TableView) (from count : ℕ) → seated from (map (fresh_hand tables) (numbers_from from count)) ≡ map (fresh_desk tables) (numbers_from from count)
+seated_fresh tables from zero = refl
+seated_fresh tables from (suc count) = ap (λ ds. fresh_desk tables from ∷ ds) (seated_fresh tables (suc from) count)
+
+pub desks_fresh : (tables : List TableView) (workers : ℕ) (hands : List (List PassView)) (desks : List DeskView) → hands ≡ map (fresh_hand tables) (upto workers) → desks ≡ seated 0 hands → desks ≡ map (fresh_desk tables) (upto workers)
+desks_fresh tables workers hands desks are sit = sit ∙ ap (λ hs. seated 0 hs) are ∙ seated_fresh tables 0 workers
 
 -- a place of a list with one more element
 pub got_more : {A : Type 0} (xs : List A) (x y : A) (i : ℕ) → slice_get (xs ++ x ∷ []) i ≡ Some y → (slice_get xs i ≡ Some y) ⊎ ((i ≡ length xs) × (x ≡ y))
@@ -136,14 +151,20 @@ each_more workers openings caps plans tables table i last each here t x at =
       | inr (e, is) ↦ let same : i ≡ t = last ∙ sym e in subst (λ y. Here t y) is (subst (λ n. Here n table) same here)
     ]
 
--- .. and the desks have got its passes
-pub desks_more : (tables : List TableView) (table : TableView) (workers : ℕ) (v : Vec DeskView Global) (shown new : List DeskView) (passes : List PassView) → v.items ≡ map (fresh_desk tables) (upto workers) → shown ≡ v.items
-    → table.start.shape.passes ≡ workers → passes ≡ fresh_passes table → new ≡ dealt shown passes → (with_items v new).items ≡ map (fresh_desk (tables ++ table ∷ [])) (upto workers)
-desks_more tables table workers v shown new passes are all count fresh_are given =
-    let now : new ≡ map (fresh_desk (tables ++ table ∷ [])) (upto workers) =
-    given ∙ (λ i. dealt (let e = all ∙ are in e i) (let e : passes ≡ map (fresh table) (upto workers) = fresh_are ∙ ap (λ n. map (fresh table) (upto n)) count in e i)) ∙ dealt_fresh tables table 0 workers in
-    let size : (ts : List TableView) → length (map (fresh_desk ts) (upto workers)) ≡ length (upto workers) = λ ts. length-map (upto workers) (fresh_desk ts) in
-    with_items_is v new (ap length now ∙ size (tables ++ table ∷ []) ∙ sym (size tables) ∙ ap length (sym are) ∙ sym v.ok.0) ∙ now
+-- .. and the workers have got its passes
+pub hands_more : (tables : List TableView) (table : TableView) (workers : ℕ) (old new : List (List PassView)) (passes : List PassView) → old ≡ map (fresh_hand tables) (upto workers)
+    → table.start.shape.passes ≡ workers → passes ≡ fresh_passes table → new ≡ handed old passes → new ≡ map (fresh_hand (tables ++ table ∷ [])) (upto workers)
+hands_more tables table workers old new passes are count fresh_are given =
+    let theirs : passes ≡ map (fresh table) (upto workers) = fresh_are ∙ ap (λ n. map (fresh table) (upto n)) count in
+    given ∙ (λ i. handed (are i) (theirs i)) ∙ handed_fresh tables table 0 workers
+
+-- a table has a pass for each worker's room
+pub pass_each : (tables : List TableView) (table : TableView) (workers : ℕ) (hands : List (Vec PassView Global)) (passes : List PassView) → contents hands ≡ map (fresh_hand tables) (upto workers)
+    → table.start.shape.passes ≡ workers → passes ≡ fresh_passes table → length passes ≡ length hands
+pass_each tables table workers hands passes are count fresh_are =
+    let theirs : length passes ≡ table.start.shape.passes = ap length fresh_are ∙ length-map (upto table.start.shape.passes) (fresh table) ∙ length_numbers 0 table.start.shape.passes in
+    let rooms : length hands ≡ workers = sym (length-map hands (λ (r : Vec PassView Global). r.items)) ∙ ap length are ∙ length-map (upto workers) (fresh_hand tables) ∙ length_numbers 0 workers in
+    theirs ∙ count ∙ sym rooms
 
 -- a test that is asked first is false where no fault is found, and then none is found behind it
 first_none : {F : Type 0} (b : Bool) (fault : F) (others : Option F) → (if b then Some fault else others) ≡ None → (b ≡ false) × (others ≡ None)
@@ -202,27 +223,28 @@ all_end P xs x all here = All-append P xs (x ∷ []) all (all_more P x [] here (
 pub no_fault : (openings : List ℕ) (plans : List (List ℕ)) → length plans ≡ length openings → too_much_from 0 openings plans ≡ None → pool_fault openings (replicate (length openings) NO_CAP) plans ≡ None
 no_fault openings plans one_each none = ap (λ f. first_of_two f (above_cap_from 0 openings (replicate (length openings) NO_CAP))) none ∙ none_above 0 openings plans one_each none
 
--- the desk of the first worker keeps the room that was made for closing
-pub first_keeps : (workers : ℕ) (tables : List TableView) (closing : Closing) (desks : List DeskView) → HasPlace workers (length tables) closing → All (λ (table : TableView). table.start.shape.passes ≡ workers) tables
-    → desks ≡ map (fresh_desk tables) (upto workers) → All (KeepsRoom (Some closing)) desks
-first_keeps workers tables closing desks place counts is =
-    subst (λ ds. All (KeepsRoom (Some closing)) ds) (sym is) (all_numbers (KeepsRoom (Some closing)) (fresh_desk tables) 0 workers (λ worker below first. (
-      closing,
+-- what was made for closing suits each worker's passes
+pub suits_all : (workers : ℕ) (tables : List TableView) (closing : Closing) (hands : List (List PassView)) → HasPlace workers (length tables) closing → All (λ (table : TableView). table.start.shape.passes ≡ workers) tables
+    → hands ≡ map (fresh_hand tables) (upto workers) → All (Suits closing) hands
+suits_all workers tables closing hands place counts is =
+    subst (λ hs. All (Suits closing) hs) (sym is) (all_numbers (Suits closing) (fresh_hand tables) 0 workers (λ worker below. (
       workers,
-      refl,
       subst (λ n. HasPlace workers n closing) (sym (length-map tables (λ table. fresh table worker))) place,
       λ k d within.
           let inside : k < length tables = omega (arith, within, length-map tables (λ table. fresh table worker)) in
           let found = found_at tables k inside in
-          let at : slice_get (fresh_desk tables worker).passes k ≡ Some (fresh found.0 worker) = slice_get-map (λ table. fresh table worker) tables k ∙ ap (λ o. option_map (λ table. fresh table worker) o) found.1 in
+          let at : slice_get (fresh_hand tables worker) k ≡ Some (fresh found.0 worker) = slice_get-map (λ table. fresh table worker) tables k ∙ ap (λ o. option_map (λ table. fresh table worker) o) found.1 in
           let same : found.0.start.shape.passes ≡ workers = subst (λ (t : TableView). t.start.shape.passes ≡ workers) (get_or_from_slice_get tables k found.0 found.0 found.1) (counts k found.0 inside) in
-          subst (λ (p : PassView). p.seen.start.shape.passes ≤ workers) (sym (get_or_from_slice_get (fresh_desk tables worker).passes k (fresh found.0 worker) d at)) (let e : found.0.start.shape.passes ≤ workers = omega (arith, same) in e),
+          subst (λ (p : PassView). p.seen.start.shape.passes ≤ workers) (sym (get_or_from_slice_get (fresh_hand tables worker) k (fresh found.0 worker) d at)) (let e : found.0.start.shape.passes ≤ workers = omega (arith, same) in e),
     )))
 
--- and no other desk is the first worker's
-pub others_first : (workers : ℕ) (tables : List TableView) (desks : List DeskView) → desks ≡ map (fresh_desk tables) (upto workers) → (k : ℕ) (d : DeskView) → suc k < length desks → (get_or desks (suc k) d).worker ≢ 0
-others_first workers tables desks is k d within first =
-    let count : length desks ≡ workers = ap length is ∙ length-map (upto workers) (fresh_desk tables) ∙ length_numbers 0 workers in
-    let at : get_or desks (suc k) d ≡ fresh_desk tables (0 + suc k) = ap (λ ds. get_or ds (suc k) d) is ∙ number_at (fresh_desk tables) 0 workers (suc k) d (omega (arith, within, count)) in
-    let number : 0 + suc k ≡ 0 = ap (λ (x : DeskView). x.worker) (sym at) ∙ first in
-    absurd (omega (arith, number))
+-- .. and so each room of them
+pub suits_rooms : (workers : ℕ) (tables : List TableView) (closing : Closing) (hands : List (Vec PassView Global)) → HasPlace workers (length tables) closing → All (λ (table : TableView). table.start.shape.passes ≡ workers) tables
+    → contents hands ≡ map (fresh_hand tables) (upto workers) → All (λ (hand : Vec PassView Global). Suits closing hand.items) hands
+suits_rooms workers tables closing hands place counts is k d within =
+    let all = suits_all workers tables closing (contents hands) place counts is k d.items (omega (arith, within, length-map hands (λ (r : Vec PassView Global). r.items))) in
+    subst (λ (ps : List PassView). Suits closing ps) (get_or-map (λ (r : Vec PassView Global). r.items) hands k d d.items within) all
+
+-- there is a room for each worker
+pub hands_count : (tables : List TableView) (workers : ℕ) (hands : List (Vec PassView Global)) → contents hands ≡ map (fresh_hand tables) (upto workers) → length hands ≡ workers
+hands_count tables workers hands are = sym (length-map hands (λ (r : Vec PassView Global). r.items)) ∙ ap length are ∙ length-map (upto workers) (fresh_hand tables) ∙ length_numbers 0 workers

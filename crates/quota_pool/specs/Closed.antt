@@ -7,7 +7,6 @@ use Rattle.std.specs.Option.{option_to_list}
 use Rattle.fn_model.specs.Calls.{own}
 use Rattle.fn_core.specs.Calls.{CoreLog, calls_in, IsIdle}
 use Rattle.fn_table.specs.Seen.{TableView, PassView, IsOf, AreAll, IsClosed}
-use Rattle.quota_pool.specs.declared.tenants.Tenant.{Tenant}
 use Rattle.quota_pool.specs.Views.{DeskView}
 
 -- the desks' passes at a tenant, in order of the desks
@@ -26,11 +25,17 @@ pub record MayClose (table : TableView) (passes : List PassView) : Type 0 where
   pub all : AreAll table passes
   pub idle : All (λ p. IsIdle p.seen p.number) passes
 
--- each tenant's book is that of its table, closed with the passes in its room
-abbrev pub AreClosedFrom : List Tenant → List CoreLog → Type 0
-AreClosedFrom [] [] = ⊤
-AreClosedFrom (tenant ∷ tenants) (book ∷ books) = ClosesWith tenant.funnel tenant.room.items book × AreClosedFrom tenants books
-AreClosedFrom _ _ = ⊥
+-- each table may be closed with the passes in its room
+abbrev pub MayCloseAll : List TableView → List (List PassView) → Type 0
+MayCloseAll [] [] = ⊤
+MayCloseAll (table ∷ tables) (passes ∷ rooms) = MayClose table passes × MayCloseAll tables rooms
+MayCloseAll _ _ = ⊥
+
+-- each book is that of its table, closed with the passes in its room
+abbrev pub AreClosedFrom : List TableView → List (List PassView) → List CoreLog → Type 0
+AreClosedFrom [] [] [] = ⊤
+AreClosedFrom (table ∷ tables) (passes ∷ rooms) (book ∷ books) = ClosesWith table passes book × AreClosedFrom tables rooms books
+AreClosedFrom _ _ _ = ⊥
 
 -- each tenant's book is the logs of the desks' passes there, put together
 abbrev pub AreClosed : List DeskView → List CoreLog → Type 0

@@ -1,17 +1,21 @@
 -- What a pool is that has just been opened.
---     fresh_desk tables worker      the desk of a worker at these tables
+--     fresh_hand tables worker, fresh_desk tables worker      the passes of a worker at these tables, and its desk
 --     OpensWith workers opening cap plan table      a table was opened with these numbers
 --     IsOpened openings caps workers plans pool desks      a pool and its desks
-use Rattle.std.specs.Prelude.{◌≡◌, ◌<◌, ℕ, List, [], ◌∷◌, ◌++◌, length, map, slice_get, slice_index, slice_index_or, Some, All}
+use Rattle.std.specs.Prelude.{◌≡◌, ◌<◌, ℕ, suc, List, [], ◌∷◌, length, map, slice_get, slice_index, slice_index_or, Some, All}
 use Rattle.running.specs.Running.{upto}
 use Rattle.fn_table.specs.Seen.{TableView, PassView, fresh}
 use Rattle.fn_table.specs.Claims.{past, left, Rests}
 use Rattle.fn_layout.specs.Workers.{IsShapeFor}
 use Rattle.quota_pool.specs.Views.{PoolView, DeskView, Belongs}
 
--- the desk of a worker at these tables: at each a pass that has made no step of its own
+-- the passes of a worker at these tables, each of which has made no step of its own
+abbrev pub fresh_hand : List TableView → ℕ → List PassView
+fresh_hand tables worker = map (λ table. fresh table worker) tables
+
+-- the desk of a worker at these tables
 abbrev pub fresh_desk : List TableView → ℕ → DeskView
-fresh_desk tables worker = record { worker = worker; passes = map (λ table. fresh table worker) tables }
+fresh_desk tables worker = record { worker = worker; passes = fresh_hand tables worker }
 
 -- A table was opened with these numbers
 pub record OpensWith (workers opening cap : ℕ) (plan : List ℕ) (table : TableView) : Type 0 where
@@ -34,15 +38,10 @@ pub record AreOpen (workers : ℕ) (openings caps : List ℕ) (plans : List (Lis
   pub tenants : length tables ≡ length plans
   pub each : (tenant : ℕ) (table : TableView) → slice_get tables tenant ≡ Some table → IsOpen workers (slice_index openings tenant) (slice_index caps tenant) (slice_index_or plans tenant []) table
 
--- a desk with one pass more
-abbrev pub with_more : DeskView → PassView → DeskView
-with_more desk pass = record { worker = desk.worker; passes = desk.passes ++ pass ∷ [] }
-
--- the desks, each with its pass more
-abbrev pub dealt : List DeskView → List PassView → List DeskView
-dealt [] passes = []
-dealt (desk ∷ desks) [] = desk ∷ desks
-dealt (desk ∷ desks) (pass ∷ passes) = with_more desk pass ∷ dealt desks passes
+-- desks with these passes, for the workers from this number on
+abbrev pub seated : ℕ → List (List PassView) → List DeskView
+seated worker [] = []
+seated worker (hand ∷ hands) = record { worker = worker; passes = hand } ∷ seated (suc worker) hands
 
 -- A pool with a table for each tenant, opened with the tenant's numbers, and a desk for each worker, in order, with the worker's pass of each table
 pub record IsOpened (openings caps : List ℕ) (workers : ℕ) (plans : List (List ℕ)) (pool : PoolView) (desks : List DeskView) : Type 0 where

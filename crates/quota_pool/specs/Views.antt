@@ -1,9 +1,8 @@
 -- What contracts see of a pool and of its desks.
 --     PoolView, DeskView      how many workers a pool has, and the table of each tenant; a desk's worker, and its pass at each tenant
---     held places, AreFull places      the passes that stand in some places, and that each place holds one
 --     Belongs pool desk      the desk is one of the pool
 --     left_at desk tenant      what the desk has left of its allowance at a tenant
-use Rattle.std.specs.Prelude.{◌≡◌, ℕ, ◌<◌, ◌≤◌, List, [], ◌∷◌, length, map, slice_get, Option, Some, None}
+use Rattle.std.specs.Prelude.{◌≡◌, ℕ, ◌<◌, ◌≤◌, List, length, slice_get, Option, Some, None}
 use Rattle.fn_table.specs.Seen.{TableView, PassView, IsOf}
 use Rattle.fn_table.specs.Claims.{left, Rests}
 
@@ -16,16 +15,6 @@ pub record PoolView : Type 0 where
 pub record DeskView : Type 0 where
   pub worker : ℕ
   pub passes : List PassView
-
--- the passes that stand in some places
-abbrev pub held : List (Option PassView) → List PassView
-held [] = []
-held (None ∷ places) = held places
-held (Some pass ∷ places) = pass ∷ held places
-
--- each place holds a pass
-abbrev pub AreFull : List (Option PassView) → Type 0
-AreFull places = places ≡ map Some (held places)
 
 -- The desk is one of the pool: at each tenant it has the pass of its worker's number, which makes no call
 pub record Belongs (pool : PoolView) (desk : DeskView) : Type 0 where

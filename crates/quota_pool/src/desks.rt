@@ -8,7 +8,7 @@ ghost use Rattle.quota_pool.specs.Calls.{WentAt};
 use crate::closing::Closing;
 use crate::moved::Moved;
 use crate::pool::QuotaPool;
-use crate::seats::Seats;
+use fn_funnel::{Kind, Pass, add_on, go_straight, read, sub_on};
 use std::marker::Model;
 use std::sync::Wait;
 
@@ -17,7 +17,8 @@ use std::sync::Wait;
 /// The first worker's desk also keeps the room that closing needs: all threads share the pool, and only one at a time may hold what is made for passes.
 #[derive(Drop)]
 pub struct Desk {
-    pub(crate) seats: Seats,
+    pub(crate) worker: u32,
+    pub(crate) passes: Vec<Pass>,
     pub(crate) closing: Option<Closing>,
 }
 
@@ -27,9 +28,9 @@ impl Model for Desk {
 
     ghost Value = { DeskView };
 
-    ghost view = { λ desk. desk.seats };
+    ghost view = { λ desk. record { worker = desk.worker; passes = desk.passes.items } };
 
-    ghost invariant = { λ desk. KeepsRoom desk.closing desk.seats };
+    ghost invariant = { λ desk. KeepsRoom desk.closing (record { worker = desk.worker; passes = desk.passes.items }) };
 }
 
 impl Desk {
@@ -38,7 +39,7 @@ impl Desk {
         requires { tenant < length self.now.passes }
         ensures { result ≡ left_at self.now tenant }
     {
-        self.seats.left(tenant)
+        self.passes[tenant as usize].allowance()
     }
 
     /// Adds, up to the tenant's cap. It may wait for the callers of its batch.
@@ -49,7 +50,15 @@ impl Desk {
         ensures made { MadeAt pool.now self.old tenant Add amount result self.new }
         ensures way { WentAt self.old tenant Add true amount result self.new }
     {
-        self.seats.add(rt, pool, tenant, amount)
+        let at = tenant as usize;
+        let funnel = pool.funnel(at);
+        let pass = &mut self.passes[at];
+        let added = add_on(rt, funnel, pass, amount);
+        Moved {
+            before: added.before,
+            moved: amount.min(funnel.cap() - added.before),
+            way: Some(added.way),
+        }
     }
 
     /// Subtracts, down to zero. It may wait for the callers of its batch.
@@ -60,7 +69,15 @@ impl Desk {
         ensures made { MadeAt pool.now self.old tenant Sub amount result self.new }
         ensures way { WentAt self.old tenant Sub true amount result self.new }
     {
-        self.seats.take(rt, pool, tenant, amount)
+        let at = tenant as usize;
+        let funnel = pool.funnel(at);
+        let pass = &mut self.passes[at];
+        let taken = sub_on(rt, funnel, pass, amount);
+        Moved {
+            before: taken.before,
+            moved: amount.min(taken.before),
+            way: Some(taken.way),
+        }
     }
 
     /// Adds, up to the tenant's cap, past the funnel. It may wait where the cap is below the highest.
@@ -71,7 +88,15 @@ impl Desk {
         ensures made { MadeAt pool.now self.old tenant Add amount result self.new }
         ensures way { WentAt self.old tenant Add false amount result self.new }
     {
-        self.seats.direct(rt, pool, tenant, amount)
+        let at = tenant as usize;
+        let funnel = pool.funnel(at);
+        let pass = &mut self.passes[at];
+        let before = go_straight(rt, funnel.table(), pass, Kind::Add, amount);
+        Moved {
+            before,
+            moved: amount.min(funnel.cap().saturating_sub(before)),
+            way: None,
+        }
     }
 
     /// The tenant's integer, as a call of its own.
@@ -81,6 +106,14 @@ impl Desk {
         ensures made { MadeAt pool.now self.old tenant Read 0 result self.new }
         ensures way { WentAt self.old tenant Read false 0 result self.new }
     {
-        self.seats.read(pool, tenant)
+        let at = tenant as usize;
+        let funnel = pool.funnel(at);
+        let pass = &mut self.passes[at];
+        let before = read(funnel.table(), pass);
+        Moved {
+            before,
+            moved: 0,
+            way: None,
+        }
     }
 }

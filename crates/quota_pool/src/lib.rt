@@ -1,17 +1,14 @@
 //! A pool of tenants, each with a funnel of its own, and a desk for each worker.
 #![tactic(auto)]
 
-mod checks;
 mod closing;
 mod desks;
 mod faults;
-mod handing;
 mod moved;
 mod opening;
 mod plans;
 mod pool;
-mod seats;
-mod tenants;
+mod rooms;
 
 pub use desks::Desk;
 pub use faults::PoolFault;

@@ -8,13 +8,12 @@ ghost use Rattle.quota_pool.specs.Opened.{IsOpened};
 ghost use Rattle.quota_pool.specs.Claims.{TellsBooks};
 ghost use Rattle.quota_pool.specs.Closed.{AreClosed};
 
-use crate::checks::{above_cap, too_much};
-use crate::closing::{Closing, close_all, closing_for, furnish};
+use crate::closing::{Closing, close_all, closing_for};
 use crate::desks::Desk;
-use crate::faults::PoolFault;
-use crate::handing::hand_in;
+use crate::faults::{PoolFault, above_cap, too_much};
 use crate::opening::{desks_of, open_all};
 use crate::plans::Plan;
+use crate::rooms::hand_all;
 use fn_funnel::{Book, Funnel};
 use fn_model::NO_CAP;
 use std::alloc::Global;
@@ -85,9 +84,9 @@ impl QuotaPool {
         if let Some(fault) = above_cap(openings, caps) {
             return Err(fault);
         }
-        let (funnels, seats) = open_all(alloc, openings, caps, workers, plans)?;
+        let (funnels, hands) = open_all(alloc, openings, caps, workers, plans)?;
         let closing = closing_for(alloc, workers, funnels.len())?;
-        let desks = desks_of(alloc, seats, closing)?;
+        let desks = desks_of(alloc, hands, closing)?;
         Ok((QuotaPool { workers, funnels }, desks))
     }
 
@@ -111,17 +110,16 @@ impl QuotaPool {
             funnels,
         } = self;
         let mut others = desks;
-        let Desk { seats, closing } = others.remove(0);
+        let Desk {
+            worker: _,
+            passes,
+            closing,
+        } = others.remove(0);
         let Some(closing) = closing else {
             unreachable!();
         };
-        let Closing {
-            rooms,
-            tenants,
-            books,
-        } = closing;
-        let mut tenants = furnish(funnels, rooms, tenants);
-        hand_in(&mut tenants, seats, others);
-        close_all(tenants, books)
+        let Closing { rooms, books } = closing;
+        let rooms = hand_all(rooms, passes, others);
+        close_all(funnels, rooms, books)
     }
 }

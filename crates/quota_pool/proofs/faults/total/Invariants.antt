@@ -1,5 +1,5 @@
 use Rattle.std.proofs.Common.{◌≡◌, ◌+◌, ◌*◌, ◌^◌, ◌<◌, sum, take}
-use Rattle.quota_pool.proofs.checks.total.Given as goal
+use Rattle.quota_pool.proofs.faults.total.Given as goal
 
 abbrev pub invariant-loop-allowance : goal.invariant-loop-allowance
 invariant-loop-allowance l =
