@@ -10,6 +10,7 @@ use Rattle.fn_core.specs.Machine.{MaySpend}
 use Rattle.fn_core.specs.Calls.{state_in, IsLegal, IsIdle}
 use Rattle.fn_core.specs.Entries.{IsBatched}
 use Rattle.fn_table.specs.Seen.{TableView, PassView, IsOf, own_of}
+use Rattle.fn_climb.specs.Next.{PendingView}
 use Rattle.fn_climb.specs.Begin.{BeginAnswers}
 use Rattle.fn_climb.specs.declared.beginning.Begun.TheVariants.{Waiting, NoRow}
 use Rattle.fn_table.proofs.Later.{later_on, of_later}
@@ -95,7 +96,7 @@ module _ (from to : TableView) (p q : PassView) (amount : ℕ) where
   LegStands (Done o i n) = Transferred p q amount o i n × IsMoved p q amount o i n
   LegStands (Waits stage) = IsOpenStage stage × StandsAt from to p q amount stage
 
-  added : (out now : PassView) (moved : ℕ) → HasTaken p amount out moved → (i : PassView) → MayAdd to q i moved → (why : Option Why) → IsUnderway i Add moved now why → (leg : Leg) → AddedLeg out now moved leg → LegStands leg
+  added : (out : PassView) (now : PendingView) (moved : ℕ) → HasTaken p amount out moved → (i : PassView) → MayAdd to q i moved → (why : Option Why) → IsUnderway i Add moved now why → (leg : Leg) → AddedLeg out now moved leg → LegStands leg
   added out now moved taken i may why u (Done o z n) leg =
       let made = made_since to q i moved may Add moved z leg.2.0 (underway_done i Add moved now why u leg.2.0 z leg.2.1) in
       let claim = claimed q Add moved leg.2.0 z may.legal may.rests made in (
@@ -128,7 +129,7 @@ module _ (from to : TableView) (p q : PassView) (amount : ℕ) where
   after_taking before out (suc n) is few made taken may leg w =
       began out q (suc n) (record { before = before; made = made; taken = taken; moved_is = is; some = omega arith }) (may_less to q q amount may (suc n) (omega arith) few) leg w
 
-  took : (now into : PassView) (why : Option Why) → IsOf from p → IsUnderway p Sub amount now why → into ≡ q → MayAdd to q into amount → (leg : Leg) → TookLeg amount now into leg → LegStands leg
+  took : (now : PendingView) (into : PassView) (why : Option Why) → IsOf from p → IsUnderway p Sub amount now why → into ≡ q → MayAdd to q into amount → (leg : Leg) → TookLeg amount now into leg → LegStands leg
   took now into why together u is may leg (inl w) =
       let taken = underway_done p Sub amount now why u w.0 w.1 w.2 in
       after_taking w.0 w.1 (min amount w.0) refl (omega arith) (claimed p Sub amount w.0 w.1 u.legal u.idle taken) taken (subst (λ (v : PassView). MayAdd to q v amount) is may) leg
@@ -149,7 +150,7 @@ module _ (from to : TableView) (p q : PassView) (amount : ℕ) where
   stands_may Over running s = running
 
   -- a move that has just begun
-  pub move_begun : (given waits b : PassView) → given ≡ p → waits ≡ q → IsOf from p → IsLegal p.seen → IsIdle p.seen p.number → BeginAnswers p Sub amount (Waiting b) → MayAdd to q q amount → StandsAt from to given waits amount (Taking b q)
+  pub move_begun : (given waits : PassView) (b : PendingView) → given ≡ p → waits ≡ q → IsOf from p → IsLegal p.seen → IsIdle p.seen p.number → BeginAnswers p Sub amount (Waiting b) → MayAdd to q q amount → StandsAt from to given waits amount (Taking b q)
   move_begun given waits b given_is waits_is together legal idle begins may =
       subst (λ (v : PassView). StandsAt from to v waits amount (Taking b q)) (sym given_is)
       (subst (λ (v : PassView). StandsAt from to p v amount (Taking b q)) (sym waits_is) (None, together, underway_begun p Sub amount b legal idle begins, refl, may))

@@ -9,12 +9,13 @@ use Rattle.std.specs.Prelude.{◌≡◌, ◌≤◌, ℕ, suc, Option, Some, None
 use Rattle.fn_model.specs.declared.Kind.{Kind}
 use Rattle.fn_core.specs.declared.answer.Blocked.{Blocked}
 use Rattle.fn_core.specs.declared.answer.Why.{Why}
-use Rattle.fn_core.specs.declared.answer.CoreStep.TheVariants.{Ready, NotYet}
+use Rattle.fn_core.specs.declared.answer.CoreStep.TheVariants.{Ready}
 use Rattle.fn_core.specs.Entries.{IsBatched}
 use Rattle.fn_table.specs.Seen.{TableView, PassView, own_of}
+use Rattle.fn_climb.specs.Next.{PendingView}
 use Rattle.fn_climb.specs.Begin.{BeginAnswers}
 use Rattle.fn_table.specs.Later.{IsLater}
-use Rattle.fn_climb.specs.Turns.{Polled}
+use Rattle.fn_climb.specs.Turns.{Polled, PolledInVain}
 use Rattle.fn_climb.specs.declared.beginning.Begun.TheVariants.{Waiting, NoRow}
 use Rattle.fn_table.specs.Called.{call_of, HasCalled}
 use Rattle.fn_table.specs.Claims.{Made}
@@ -46,7 +47,7 @@ pub record IsFor (p : PassView) (kind : Kind) (amount : ℕ) (c : CallView) : Ty
 
 -- the call waits at its leaf, and hasn't been polled
 abbrev pub HasStarted : TableView → PassView → Kind → ℕ → CallView → Type 0
-HasStarted t p kind amount c = (b : PassView) × BeginAnswers p kind amount (Waiting b) × (c ≡ record { table = t; given = p; kind = kind; amount = amount; pending = Some b; why = None })
+HasStarted t p kind amount c = (b : PendingView) × BeginAnswers p kind amount (Waiting b) × (c ≡ record { table = t; given = p; kind = kind; amount = amount; pending = Some b; why = None })
 
 -- .. or at some level each row of the pass is blocked, the last of them by this load, and the pass has made no call
 abbrev pub Starts : TableView → PassView → Kind → ℕ → Result CallView (PassView × Blocked) → Type 0
@@ -54,9 +55,9 @@ Starts t p kind amount (Ok c) = HasStarted t p kind amount c
 Starts t p kind amount (Err e) = BeginAnswers p kind amount (NoRow e.0 e.1)
 
 -- The call was polled exactly once. That ended it, or told it to wait, for this reason
-abbrev pub TurnedFrom : CallView → PassView → Option (PassView × ℕ) → CallView → Type 0
+abbrev pub TurnedFrom : CallView → PendingView → Option (PassView × ℕ) → CallView → Type 0
 TurnedFrom old now (Some r) new = Polled now (Ready r.1) r.0 × (new ≡ record old { pending = None })
-TurnedFrom old now None new = (why : Why) × (next : PassView) × Polled now (NotYet why) next × (new ≡ record old { pending = Some next; why = Some why })
+TurnedFrom old now None new = (why : Why) × (next : PendingView) × PolledInVain now why next × (new ≡ record old { pending = Some next; why = Some why })
 
 abbrev pub Turned : CallView → Option (PassView × ℕ) → CallView → Type 0
 Turned old result new = IsSomeAnd old.pending (λ now. TurnedFrom old now result new)

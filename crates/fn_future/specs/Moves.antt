@@ -10,12 +10,13 @@ use Rattle.std.specs.Prelude.{◌≡◌, ◌⊎◌, ⊤, ℕ, zero, suc, min, Op
 use Rattle.fn_model.specs.declared.Kind.TheVariants.{Add, Sub}
 use Rattle.fn_core.specs.declared.answer.Blocked.{Blocked}
 use Rattle.fn_core.specs.declared.answer.Why.{Why}
-use Rattle.fn_core.specs.declared.answer.CoreStep.TheVariants.{Ready, NotYet}
+use Rattle.fn_core.specs.declared.answer.CoreStep.TheVariants.{Ready}
 use Rattle.fn_core.specs.Machine.{MaySpend}
 use Rattle.fn_core.specs.Calls.{state_in, IsIdle}
 use Rattle.fn_table.specs.Seen.{TableView, PassView, IsOf}
+use Rattle.fn_climb.specs.Next.{PendingView}
 use Rattle.fn_climb.specs.Begin.{BeginAnswers}
-use Rattle.fn_climb.specs.Turns.{Polled}
+use Rattle.fn_climb.specs.Turns.{Polled, PolledInVain}
 use Rattle.fn_climb.specs.declared.beginning.Begun.TheVariants.{Waiting, NoRow}
 use Rattle.fn_future.specs.declared.legs.MoveStage.{MoveStage}
 use Rattle.fn_future.specs.declared.legs.MoveStage.TheVariants.{Taking, Between, Adding, Over}
@@ -54,14 +55,14 @@ abbrev pub GivesMove : MoveView → PassView × PassView × ℕ → Type 0
 GivesMove m r = Transferred m.out m.into m.amount r.0 r.1 r.2 × HasMoved m r
 
 -- the addition was polled once
-abbrev pub AddedLeg : PassView → PassView → ℕ → Leg → Type 0
+abbrev pub AddedLeg : PassView → PendingView → ℕ → Leg → Type 0
 AddedLeg out now moved (Done o i n) = (o ≡ out) × (n ≡ moved) × ((reply : ℕ) × Polled now (Ready reply) i)
-AddedLeg out now moved (Waits stage) = (why : Why) × (next : PassView) × Polled now (NotYet why) next × (stage ≡ Adding out next moved)
+AddedLeg out now moved (Waits stage) = (why : Why) × (next : PendingView) × PolledInVain now why next × (stage ≡ Adding out next moved)
 
 -- the addition began, and was then polled; or it found no row
 abbrev pub BeganLeg : PassView → PassView → ℕ → Leg → Type 0
 BeganLeg out into moved leg =
-    ((b : PassView) × BeginAnswers into Add moved (Waiting b) × AddedLeg out b moved leg)
+    ((b : PendingView) × BeginAnswers into Add moved (Waiting b) × AddedLeg out b moved leg)
     ⊎ ((r : PassView) × (at : Blocked) × BeginAnswers into Add moved (NoRow r at) × (leg ≡ Waits (Between out r moved)))
 
 -- so much was taken, and goes on to the other table unless it is nothing
@@ -70,10 +71,10 @@ AfterTaking zero out into leg = leg ≡ Done out into 0
 AfterTaking (suc n) out into leg = BeganLeg out into (suc n) leg
 
 -- the subtraction was polled once, and where that ended it the addition began
-abbrev pub TookLeg : ℕ → PassView → PassView → Leg → Type 0
+abbrev pub TookLeg : ℕ → PendingView → PassView → Leg → Type 0
 TookLeg amount now into leg =
     ((before : ℕ) × (out : PassView) × Polled now (Ready before) out × AfterTaking (min amount before) out into leg)
-    ⊎ ((why : Why) × (next : PassView) × Polled now (NotYet why) next × (leg ≡ Waits (Taking next into)))
+    ⊎ ((why : Why) × (next : PendingView) × PolledInVain now why next × (leg ≡ Waits (Taking next into)))
 
 -- what a poll does, by where the move stands
 abbrev pub GoesFrom : ℕ → MoveStage → Leg → Type 0
@@ -84,9 +85,9 @@ GoesFrom amount Over leg = ⊥
 
 -- what a poll needs, by where the move stands
 abbrev pub MayGo : TableView → TableView → ℕ → MoveStage → Type 0
-MayGo from to amount (Taking now into) = IsOf from now × IsOf to into × IsIdle into.seen into.number × MaySpend (state_in into.seen) into.number amount
+MayGo from to amount (Taking now into) = IsOf from now.pass × IsOf to into × IsIdle into.seen into.number × MaySpend (state_in into.seen) into.number amount
 MayGo from to amount (Between out into moved) = IsOf to into × IsIdle into.seen into.number × MaySpend (state_in into.seen) into.number moved
-MayGo from to amount (Adding out now moved) = IsOf to now
+MayGo from to amount (Adding out now moved) = IsOf to now.pass
 MayGo from to amount Over = ⊥
 
 -- what the poll then leaves
@@ -116,5 +117,5 @@ pub record IsMoveFor (p q : PassView) (amount : ℕ) (m : MoveView) : Type 0 whe
 
 -- the subtraction waits at its leaf, or at some level each row of its pass is blocked; the other pass is as it was
 abbrev pub StartsMove : TableView → PassView → TableView → PassView → ℕ → Result MoveView (PassView × PassView × Blocked) → Type 0
-StartsMove from out to into amount (Ok m) = (b : PassView) × BeginAnswers out Sub amount (Waiting b) × (m ≡ record { from = from; to = to; out = out; into = into; amount = amount; stage = Taking b into })
+StartsMove from out to into amount (Ok m) = (b : PendingView) × BeginAnswers out Sub amount (Waiting b) × (m ≡ record { from = from; to = to; out = out; into = into; amount = amount; stage = Taking b into })
 StartsMove from out to into amount (Err e) = BeginAnswers out Sub amount (NoRow e.0 e.2) × (e.1 ≡ into)

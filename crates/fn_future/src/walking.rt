@@ -23,7 +23,7 @@ pub fn go(from: &FunnelTable, to: &FunnelTable, amount: u64, stage: MoveStage) -
 
 // Polls the subtraction, and goes on with the addition where that ends it.
 fn take(from: &FunnelTable, to: &FunnelTable, amount: u64, pending: Pending, into: Pass) -> Leg
-    requires from { IsOf from.now pending }
+    requires from { IsOf from.now pending.pass }
     requires to { IsOf to.now into }
     requires idle { IsIdle into.seen into.number }
     requires amount { MaySpend (state_in into.seen) into.number amount }
@@ -57,7 +57,7 @@ fn begin_to_add(to: &FunnelTable, out: Pass, into: Pass, moved: u64) -> Leg
 
 // Polls the addition.
 fn add(to: &FunnelTable, out: Pass, pending: Pending, moved: u64) -> Leg
-    requires { IsOf to.now pending }
+    requires { IsOf to.now pending.pass }
     ensures { AddedLeg out pending moved result }
 {
     match pending.poll(to) {
