@@ -10,13 +10,13 @@ use Rattle.fn_model.specs.declared.Kind.{Kind}
 use Rattle.fn_model.specs.declared.Kind.TheVariants.{Read}
 use Rattle.fn_core.specs.declared.answer.Blocked.{Blocked}
 use Rattle.fn_core.specs.declared.answer.Why.{Why}
-use Rattle.fn_core.specs.declared.answer.CoreStep.TheVariants.{Ready, NotYet}
+use Rattle.fn_core.specs.declared.answer.CoreStep.TheVariants.{Ready}
 use Rattle.fn_core.specs.Machine.{IsChange, MaySpend}
 use Rattle.fn_core.specs.Calls.{state_in}
 use Rattle.fn_table.specs.Seen.{TableView, PassView, IsOf}
 use Rattle.fn_climb.specs.Begin.{BeginAnswers}
 use Rattle.fn_table.specs.Later.{IsLater}
-use Rattle.fn_climb.specs.Turns.{Polled}
+use Rattle.fn_climb.specs.Turns.{Polled, PolledInVain}
 use Rattle.fn_climb.specs.declared.beginning.Begun.TheVariants.{Waiting, NoRow}
 use Rattle.fn_table.specs.Called.{HasMadeNone}
 use Rattle.fn_table.specs.Claims.{left, Rests}
@@ -63,14 +63,14 @@ next_order l = order_at l.orders l.replies
 -- what a turn of a caller needs
 abbrev pub MayTurn : TableView → Kind → ℕ → Caller → Type 0
 MayTurn t kind amount (Idle p) = IsOf t p × Rests p × IsChange kind × MaySpend (state_in p.seen) p.number amount
-MayTurn t kind amount (Pending now) = IsOf t now
+MayTurn t kind amount (Pending now) = IsOf t now.pass
 MayTurn t kind amount Gone = ⊥
 
 -- an idle caller began the call, or found no row; another was polled once, which ended its call or told it to wait
 abbrev pub CallerWent : Kind → ℕ → Caller → Option ℕ → Caller → Type 0
 CallerWent kind amount (Idle p) None (Pending b) = BeginAnswers p kind amount (Waiting b)
 CallerWent kind amount (Idle p) None (Idle q) = (at : Blocked) × BeginAnswers p kind amount (NoRow q at)
-CallerWent kind amount (Pending now) None (Pending next) = (why : Why) × Polled now (NotYet why) next
+CallerWent kind amount (Pending now) None (Pending next) = (why : Why) × PolledInVain now why next
 CallerWent kind amount (Pending now) (Some reply) (Idle q) = Polled now (Ready reply) q
 CallerWent kind amount _ _ _ = ⊥
 

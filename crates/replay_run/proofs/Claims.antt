@@ -10,7 +10,7 @@ use Rattle.fn_model.specs.Integer.{value, moved_amount, Meets}
 use Rattle.fn_core.specs.declared.Start.{Start}
 use Rattle.fn_core.specs.Calls.{CoreLog, calls_in}
 use Rattle.quota_pool.specs.declared.moved.Moved.{Moved}
-use Rattle.quota_pool.proofs.Closes.{found_at}
+use Rattle.quota_pool.proofs.Laws.{found_at}
 use Rattle.trace_text.specs.SoundTrace.{CutsRise}
 use Rattle.trace_text.specs.Trace.{Content}
 use Rattle.trace_text.specs.declared.traces.Cut.{Cut}

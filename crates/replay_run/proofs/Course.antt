@@ -6,7 +6,7 @@ use Rattle.std.proofs.lemmas.List.Elements.{All-take, All-drop}
 use Rattle.std.proofs.lemmas.List.Sums.{sum_by-cons}
 use Rattle.std.proofs.lemmas.Option.{slice_get-get_or, slice_get-map, get_or_from_slice_get}
 use Rattle.std.specs.Option.{option_map}
-use Rattle.quota_pool.proofs.Closes.{found_at}
+use Rattle.quota_pool.proofs.Laws.{found_at}
 use Rattle.std.specs.List.{sum_by}
 use Rattle.fn_model.specs.declared.Call.{Call}
 use Rattle.fn_model.specs.Calls.{own}

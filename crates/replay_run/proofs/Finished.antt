@@ -10,7 +10,7 @@ use Rattle.quota_pool.specs.Views.{PoolView, DeskView, Belongs}
 use Rattle.quota_pool.specs.Claims.{TellsBooks}
 use Rattle.quota_pool.specs.Closed.{AreClosed}
 use Rattle.quota_pool.specs.declared.moved.Moved.{Moved}
-use Rattle.quota_pool.proofs.Closes.{found_at}
+use Rattle.quota_pool.proofs.Laws.{found_at}
 use Rattle.trace_text.specs.declared.traces.Row.{Row}
 use Rattle.trace_text.specs.declared.traces.Tenant.{Tenant}
 use Rattle.replay_run.specs.declared.places.Place.{Place}

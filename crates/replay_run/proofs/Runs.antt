@@ -5,7 +5,7 @@ use Rattle.std.proofs.lemmas.List.Sums.{sum_by-cons}
 use Rattle.std.proofs.lemmas.List.Elements.{All-head, All-tail}
 use Rattle.quota_pool.specs.Views.{PoolView, DeskView, left_at, left_in}
 use Rattle.quota_pool.specs.Claims.{MadeAt}
-use Rattle.quota_pool.proofs.Calling.{left_after}
+use Rattle.quota_pool.proofs.Laws.{left_after}
 use Rattle.quota_pool.specs.declared.moved.Moved.{Moved}
 use Rattle.trace_text.specs.SoundTrace.{IsSoundRow, amounts}
 use Rattle.trace_text.specs.declared.traces.Row.{Row}

@@ -30,7 +30,7 @@ use Rattle.quota_pool.specs.Opened.{fresh_desk, OpensWith, IsNew}
 use Rattle.quota_pool.specs.Claims.{HasCallsOf, TellsBook, TellsBooks}
 use Rattle.quota_pool.specs.Closed.{passes_at, AreClosed}
 use Rattle.quota_pool.specs.declared.moved.Moved.{Moved}
-use Rattle.quota_pool.proofs.Books.{seen_in_book}
+use Rattle.quota_pool.proofs.Laws.{seen_in_book}
 use Rattle.trace_text.specs.SoundTrace.{IsSoundRow, amounts}
 use Rattle.trace_text.specs.declared.traces.Row.{Row}
 use Rattle.replay_run.specs.declared.places.Job.{Job}

@@ -9,6 +9,7 @@ use Rattle.fn_core.specs.declared.answer.CoreStep.{CoreStep}
 use Rattle.fn_core.specs.declared.answer.CoreStep.TheVariants.{Going, Ready, NotYet}
 use Rattle.fn_core.specs.State.{Caller as Standing}
 use Rattle.fn_core.specs.Calls.{Follows, IsIdle, left_of}
+use Rattle.fn_climb.specs.Next.{PendingView}
 use Rattle.fn_table.specs.Seen.{TableView, PassView, IsOf, Stored}
 use Rattle.fn_table.specs.Later.{IsLater}
 use Rattle.fn_table.proofs.Later.{later_by}
@@ -57,7 +58,7 @@ leaves-named p q n later less =
     omega (arith, here)
 
 began-leaves : (p : PassView) (kind : Kind) (n : ℕ) (told : LineAnswer) (c : Caller) → Began p kind n told c → Leaves (Idle p) n c
-began-leaves p kind n answer.Waits (Pending q) b = record { later = b.1.later; right = tt; left = leaves-named p q n b.1.later b.3.left }
+began-leaves p kind n answer.Waits (Pending q) b = record { later = b.1.later; right = tt; left = leaves-named p q.pass n b.1.later b.3.left }
 began-leaves p kind n (answer.NoRow at) (Idle q) b = record {
   later = b.1.later;
   right = b.4;
@@ -100,12 +101,12 @@ call-leaves p order.Poll told c d = absurd d
 call-leaves p (order.Meet q) told c d = absurd d
 
 -- of a step
-told-leaves : (p : PassView) (step : CoreStep) (q : PassView) → IsLater p q → Follows p.seen q.seen p.number step → left_of q.seen q.number ≡ left_of p.seen p.number → Leaves (Pending p) 0 (left_with step q)
-told-leaves p Going q later follows same = record { later = later; right = tt; left = leaves-named p q 0 later (omega (arith, same)) }
-told-leaves p (Ready n) q later follows same = record { later = later; right = idle-named p q later follows.0; left = leaves-named p q 0 later (omega (arith, same)) }
-told-leaves p (NotYet why) q later follows same = record { later = later; right = tt; left = leaves-named p q 0 later (omega (arith, same)) }
+told-leaves : (p : PendingView) (step : CoreStep) (q : PassView) → IsLater p.pass q → Follows p.seen q.seen p.number step → left_of q.seen q.number ≡ left_of p.seen p.number → Leaves (Pending p) 0 (left_with p step q)
+told-leaves p Going q later follows same = record { later = later; right = tt; left = leaves-named p.pass q 0 later (omega (arith, same)) }
+told-leaves p (Ready n) q later follows same = record { later = later; right = idle-named p.pass q later follows.0; left = leaves-named p.pass q 0 later (omega (arith, same)) }
+told-leaves p (NotYet why) q later follows same = record { later = later; right = tt; left = leaves-named p.pass q 0 later (omega (arith, same)) }
 
-step-leaves : (p : PassView) (o : Order) (told : LineAnswer) (c : Caller) → StepDone p o told c → Leaves (Pending p) (amount o) c
+step-leaves : (p : PendingView) (o : Order) (told : LineAnswer) (c : Caller) → StepDone p o told c → Leaves (Pending p) (amount o) c
 step-leaves p order.Step told c d = subst (Leaves (Pending p) 0) (sym d.4) (told-leaves p d.0 d.1 d.2.later d.2.follows d.2.same.left)
 step-leaves p order.Poll told c d = subst (Leaves (Pending p) 0) (sym d.4) (told-leaves p d.0 d.1 d.2.later d.2.follows d.2.same.left)
 step-leaves p (order.Add n) told c d = absurd d

@@ -12,6 +12,7 @@ use Rattle.fn_core.specs.State.{Caller as Standing}
 use Rattle.fn_core.specs.Calls.{CoreLog, Follows, HasCall, IsIdle, IsLegal, calls_in}
 use Rattle.fn_core.proofs.Orders.{resting_passes_have_no_call}
 use Rattle.fn_table.specs.Seen.{PassView, own_of}
+use Rattle.fn_climb.specs.Next.{PendingView}
 use Rattle.fn_climb.specs.Begin.{HasBegun}
 use Rattle.fn_climb.specs.Steps.{HasSameCall, Went}
 use Rattle.fn_table.specs.Later.{IsLater}
@@ -158,7 +159,7 @@ module _ (calls : List Call) (at : ℕ) (p : PassView) (was : Knows calls p.numb
   began-told : (o : Order) (kind : Kind) (n : ℕ) → asked p.number (length (own p.number calls)) o ≡ record { pass = p.number; number = length (own p.number calls); kind = kind; amount = n } ∷ []
       → IsIdle p.seen p.number → (told : LineAnswer) (c : Caller) → Began p kind n told c → Told calls (here o) told c
   began-told o kind n is idle answer.Waits (Pending q) b =
-      (subst (λ (x : List Call). Knows (calls ++ x) p.number q) (sym is) (begun-one calls p was q kind n b.1.later idle b.3), tt)
+      (subst (λ (x : List Call). Knows (calls ++ x) p.number q.pass) (sym is) (begun-one calls p was q.pass kind n b.1.later idle b.3), tt)
   began-told o kind n is idle (answer.NoRow blocked) (Idle q) b = none-told o (answer.NoRow blocked) q (Idle q) refl (append-nil calls) (refused-one calls p was q b.1.later idle b.3 b.4) tt
   began-told o kind n is idle answer.Waits (Idle q) b = absurd b
   began-told o kind n is idle (answer.NoRow blocked) (Pending q) b = absurd b
@@ -189,26 +190,34 @@ module _ (calls : List Call) (at : ℕ) (p : PassView) (was : Knows calls p.numb
   call-told idle order.Poll told c d = absurd d
   call-told idle (order.Meet q) told c d = absurd d
 
-  with-seen : (step : CoreStep) (q : PassView) → seen_of (left_with step q) ≡ q
+-- steps of a call, which keeps its rows
+module _ (calls : List Call) (at : ℕ) (underway : PendingView) (was : Knows calls underway.number underway.pass) where
+  abbrev p : PassView
+  p = underway.pass
+
+  abbrev its : Order → ScriptLine
+  its o = record { at = at; pass = p.number; order = o }
+
+  with-seen : (step : CoreStep) (q : PassView) → seen_of (left_with underway step q) ≡ q
   with-seen Going q = refl
   with-seen (Ready n) q = refl
   with-seen (NotYet why) q = refl
 
-  steps-told : (o : Order) → asked p.number (length (own p.number calls)) o ≡ [] → (step : CoreStep) (q : PassView) (told : LineAnswer) (c : Caller) → told ≡ told_answer step → c ≡ left_with step q
-      → Knows calls p.number q × IsMet q.seen.start.cap q.seen.start.opening (calls_in q.seen) (own p.number calls) (told_answer step) → Told calls (here o) told c
+  steps-told : (o : Order) → asked p.number (length (own p.number calls)) o ≡ [] → (step : CoreStep) (q : PassView) (told : LineAnswer) (c : Caller) → told ≡ told_answer step → c ≡ left_with underway step q
+      → Knows calls p.number q × IsMet q.seen.start.cap q.seen.start.opening (calls_in q.seen) (own p.number calls) (told_answer step) → Told calls (its o) told c
   steps-told o none step q told c is_told is_left all =
-      subst (λ (x : LineAnswer). Told calls (here o) x c) (sym is_told)
-      (none-told o (told_answer step) q c (ap seen_of is_left ∙ with-seen step q) (none-made calls (here o) (told_answer step) none) all.0 all.1)
+      subst (λ (x : LineAnswer). Told calls (its o) x c) (sym is_told)
+      (none-told calls at p was o (told_answer step) q c (ap seen_of is_left ∙ with-seen step q) (none-made calls (its o) (told_answer step) none) all.0 all.1)
 
   -- a poll begins with a step of a call that is underway
-  first-call : (steps : List Move) (until q : PassView) (step : CoreStep) → GoesOn p steps until → Went until step q → HasCall p.seen p.number
-  first-call [] until q step goes went = subst (λ (x : PassView). HasCall x.seen x.number) goes went.call
-  first-call (move ∷ steps) until q step goes went = goes.1.call
+  first-call : (underway : PendingView) (steps : List Move) (until q : PassView) (step : CoreStep) → GoesOn underway steps until → Went (record underway { pass = until }) step q → HasCall underway.seen underway.number
+  first-call underway [] until q step goes went = subst (λ (x : PassView). HasCall x.seen x.number) goes went.call
+  first-call underway (move ∷ steps) until q step goes went = goes.1.call
 
-  polled-call : (step : CoreStep) (q : PassView) → Polled p step q → HasCall p.seen p.number
-  polled-call step q d = first-call d.steps d.until q step d.goes d.last
+  polled-call : (step : CoreStep) (q : PassView) → Polled underway step q → HasCall p.seen p.number
+  polled-call step q d = first-call underway d.steps d.until q step d.goes d.last
 
-  step-told : (o : Order) (told : LineAnswer) (c : Caller) → StepDone p o told c → Told calls (here o) told c
+  step-told : (o : Order) (told : LineAnswer) (c : Caller) → StepDone underway o told c → Told calls (its o) told c
   step-told order.Step told c d = steps-told order.Step refl d.0 d.1 told c d.3 d.4 (told-one calls p was d.0 d.1 d.2.later d.2.call d.2.follows d.2.same)
   step-told order.Poll told c d = steps-told order.Poll refl d.0 d.1 told c d.3 d.4 (told-one calls p was d.0 d.1 d.2.later (polled-call d.0 d.1 d.2) d.2.follows d.2.same)
   step-told (order.Add n) told c d = absurd d

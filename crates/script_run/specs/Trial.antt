@@ -18,6 +18,7 @@ use Rattle.fn_core.specs.declared.answer.CoreStep.TheVariants.{Ready}
 use Rattle.fn_core.specs.Machine.{no_cap}
 use Rattle.fn_core.specs.Calls.{CoreLog, calls_in}
 use Rattle.fn_table.specs.Seen.{TableView, PassView, AreAll, IsClosed, IsOf, Met, Stepped, Stored, fresh_passes, note_of}
+use Rattle.fn_climb.specs.Next.{PendingView}
 use Rattle.fn_climb.specs.Begin.{BeginAnswers}
 use Rattle.fn_climb.specs.Steps.{Went}
 use Rattle.fn_climb.specs.Turns.{Polled}
@@ -42,7 +43,7 @@ use Rattle.script_run.specs.Answered.{IsAnswered}
 -- what a caller has seen
 abbrev pub seen_of : Caller → PassView
 seen_of (Idle p) = p
-seen_of (Pending p) = p
+seen_of (Pending p) = p.pass
 
 -- whether a caller makes no call
 abbrev pub is_idle : Option Caller → Bool
@@ -74,15 +75,15 @@ CallDone p (order.Direct amount) told c = (n : ℕ) × (q : PassView) × Stepped
 CallDone p (order.SubDirect amount) told c = (q : PassView) × Subtracted p amount told q × (c ≡ Idle q)
 CallDone p _ told c = ⊥
 
--- a call stays with its pass until it is answered
-abbrev pub left_with : CoreStep → PassView → Caller
-left_with (Ready n) q = Idle q
-left_with _ q = Pending q
+-- a call stays with its pass until it is answered, and keeps its rows
+abbrev pub left_with : PendingView → CoreStep → PassView → Caller
+left_with p (Ready n) q = Idle q
+left_with p _ q = Pending (record p { pass = q })
 
 -- an order to a pass that is in mid-call
-abbrev pub StepDone : PassView → Order → LineAnswer → Caller → Type 0
-StepDone p order.Step told c = (step : CoreStep) × (q : PassView) × Went p step q × (told ≡ told_answer step) × (c ≡ left_with step q)
-StepDone p order.Poll told c = (step : CoreStep) × (q : PassView) × Polled p step q × (told ≡ told_answer step) × (c ≡ left_with step q)
+abbrev pub StepDone : PendingView → Order → LineAnswer → Caller → Type 0
+StepDone p order.Step told c = (step : CoreStep) × (q : PassView) × Went p step q × (told ≡ told_answer step) × (c ≡ left_with p step q)
+StepDone p order.Poll told c = (step : CoreStep) × (q : PassView) × Polled p step q × (told ≡ told_answer step) × (c ≡ left_with p step q)
 StepDone p _ told c = ⊥
 
 -- an order to a caller

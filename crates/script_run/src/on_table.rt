@@ -147,7 +147,7 @@ fn subtract(
 
 // A caller after one step of its call, and what that was answered.
 fn stepped(table: &FunnelTable, pending: Pending) -> (Caller, LineAnswer)
-    requires { IsOf table.now pending }
+    requires { IsOf table.now pending.pass }
     ensures { StepDone pending Order.Step result.1 result.0 }
 {
     match pending.step(table) {
@@ -159,7 +159,7 @@ fn stepped(table: &FunnelTable, pending: Pending) -> (Caller, LineAnswer)
 
 // .. and after a poll.
 fn polled(table: &FunnelTable, pending: Pending) -> (Caller, LineAnswer)
-    requires { IsOf table.now pending }
+    requires { IsOf table.now pending.pass }
     ensures { StepDone pending Order.Poll result.1 result.0 }
 {
     match pending.poll(table) {

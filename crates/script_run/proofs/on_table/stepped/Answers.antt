@@ -1,0 +1,10 @@
+use Rattle.std.proofs.Common.{refl}
+use Rattle.fn_core.specs.declared.answer.CoreStep.TheVariants as told
+use Rattle.script_run.specs.declared.trial.Caller.TheVariants.{Pending}
+use Rattle.script_run.proofs.on_table.stepped.Goals as goal
+
+pub returns-in-Going : goal.returns-in-Going
+returns-in-Going c = (told.Going, c.in-Going.pending.pass, c.in-Going.ensures.0, refl, λ i. Pending (record { pass = c.in-Going.pending.pass; rows = c.in-Going.ensures.1 i }))
+
+pub returns-in-NotYet : goal.returns-in-NotYet
+returns-in-NotYet c = (told.NotYet c.in-NotYet.why, c.in-NotYet.pending.pass, c.in-NotYet.ensures.0, refl, λ i. Pending (record { pass = c.in-NotYet.pending.pass; rows = c.in-NotYet.ensures.1 i }))
