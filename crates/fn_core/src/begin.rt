@@ -227,6 +227,3 @@ fn push_first_steps(
     events.push(Event { pass, step: arrive })?;
     Ok(())
 }
-
-#[cfg(test)]
-mod tests;
