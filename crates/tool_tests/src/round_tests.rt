@@ -213,7 +213,7 @@ fn lanes_without_orders_end_at_the_first_poll(rt: HostRuntime) -> Result<(), Fai
 fn starts(table: &FunnelTable, pass: Pass, amount: u64) -> Option<Pending>
     requires together { IsOf table.now pass }
     requires idle { Rests pass }
-    ensures { IfSome result (λ p. IsOf table.now p) }
+    ensures { IfSome result (λ p. IsOf table.now p.pass) }
 {
     if amount < 1 || pass.allowance() < amount {
         return None;
@@ -226,7 +226,7 @@ fn starts(table: &FunnelTable, pass: Pass, amount: u64) -> Option<Pending>
 
 // A poll that ends it.
 fn ends(table: &FunnelTable, pending: Pending) -> Option<u64>
-    requires { IsOf table.now pending }
+    requires { IsOf table.now pending.pass }
 {
     match pending.poll(table) {
         Turn::Ready(_, reply) => Some(reply),
