@@ -1,5 +1,5 @@
 #!/bin/sh
-# Additions of 1 in a second by one, two and four threads: through a funnel, by one fetch-and-add of a word each, and under a lock.
+# How long an addition of 1 takes by one, two and four threads at once: through a funnel with a pass for each, by one fetch-and-add of a word, and under a lock.
 # Usage: bench/funnel.sh [ADDITIONS OF EACH THREAD]
 set -eu
 cd "$(dirname "$0")/../crates/funnel_bench"

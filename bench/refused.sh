@@ -19,7 +19,10 @@ while [ "$done_in_a_row" -lt 40 ]; do
     else
         done_in_a_row=0
         line=$(cat "$work/err")
-        [ "$status" = 6 ] && [ "$line" = "no memory" ] || { echo "request $number: status $status, and the line '$line'" >&2; exit 1; }
+        if [ "$status" != 6 ] || [ "$line" != "no memory" ]; then
+            echo "request $number: status $status, and the line '$line'" >&2
+            exit 1
+        fi
         [ ! -s "$work/out" ] || { echo "request $number: status $status, and something was written" >&2; exit 1; }
         echo "status $status: $line"
     fi

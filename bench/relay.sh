@@ -3,14 +3,11 @@
 # Wants the proved program (./.ci/run, or rt run in crates/funnel_tool) and rustc.
 set -eu
 . "$(dirname "$0")/tool.sh"
-rustc -O -o "$work/plain" bench/plain_relay.rs
+plain relay
 seq 1 100000 >"$work/lines"
-timed() {
-    local name=$1
-    shift
-    TIMEFORMAT="$name %R s"
-    time "$@" <"$work/lines" >"$work/out"
-    cut -d' ' -f2 "$work/out" | sort -n | cmp - "$work/lines"
-}
-timed plain "$work/plain" 4 64
-timed relay "$tool" relay 4 64
+timed plain "$work/lines" "$work/plain_relay" 4 64
+timed relay "$work/lines" "$tool" relay 4 64
+for name in plain relay; do
+    cut -d' ' -f2 "$work/out.$name" | sort -n | cmp - "$work/lines"
+    echo "$name $(seconds "${least[$name]}")"
+done

@@ -1,9 +1,9 @@
 //! Rounds of additions, each on ground of its own.
-ghost use Rattle.std.specs.Prelude.{◌≡◌, All, IfSome, length};
+ghost use Rattle.std.specs.Prelude.{◌≡◌, All, length};
 ghost use Rattle.fn_core.specs.Calls.{IsIdle};
 ghost use Rattle.fn_table.specs.Seen.{IsOf, IsWhole};
 
-use fn_funnel::{Funnel, Pass, Shape, Way, add, read};
+use fn_funnel::{Funnel, Pass, Shape, Way, add, shape_for};
 use std::alloc::{AllocError, Global};
 use std::sync::atomic::{AtomicU64, Ordering};
 use std::sync::{Mutex, Wait};
@@ -69,28 +69,28 @@ impl Round {
         self.threads as u64 * self.times as u64
     }
 
-    /// How many additions there were in a second.
-    pub fn rate(self, spent: Duration) -> u64 {
-        let micros = spent.as_secs().saturating_mul(1_000_000);
-        let micros = micros.saturating_add(spent.subsec_micros() as u64);
-        self.additions().saturating_mul(1_000_000) / micros.max(1)
+    /// How many tenths of a nanosecond one addition took.
+    pub fn tenths(self, spent: Duration) -> u64 {
+        let nanos = spent.as_secs().saturating_mul(1_000_000_000);
+        let nanos = nanos.saturating_add(spent.subsec_nanos() as u64);
+        nanos.saturating_mul(10) / self.additions().max(1)
+    }
+
+    /// How many in 100 of the additions so many are.
+    pub fn percent(self, some: u64) -> u64 {
+        some.saturating_mul(100) / self.additions().max(1)
     }
 }
 
-// On one funnel, which has the leaves and levels that so many threads get, and one more pass that reads the value.
+// On one funnel, with a pass for each thread.
 fn on_a_funnel<R: Threads + Wait + Sync>(
     rt: &R,
     alloc: Global,
     round: Round,
 ) -> Result<Made, AllocError> {
-    let threads = round.threads.max(1).min(63);
-    let leaves = (threads + 3) / 4;
-    let levels = if leaves >= 2 { 2 } else { 1 };
-    let Ok(shape) = Shape::new(threads + 1, leaves, levels, 4) else {
-        return Err(AllocError);
-    };
-    let allowances = vec![in alloc; round.times as u64; threads as usize + 1]?;
-    open_and_add(rt, alloc, shape, &allowances, round)
+    let passes = round.threads.max(1).min(64);
+    let allowances = vec![in alloc; round.times as u64; passes as usize]?;
+    open_and_add(rt, alloc, shape_for(passes), &allowances, round)
 }
 
 // On a funnel of this shape.
@@ -103,73 +103,58 @@ fn open_and_add<R: Threads + Wait + Sync>(
 ) -> Result<Made, AllocError>
     requires { length allowances.now ≡ shape.passes }
 {
-    let (funnel, mut passes) = match Funnel::open(alloc, shape, 0, allowances) {
+    let (funnel, passes) = match Funnel::open(alloc, shape, 0, allowances) {
         Ok(opened) => opened,
         Err(_) => return Err(AllocError),
     };
-    let reader = last_of(&funnel, &mut passes);
-    let past = add_at_once(rt, &funnel, passes, round.times)?;
-    let value = match reader {
-        Some(mut pass) => read(funnel.table(), &mut pass),
-        None => 0,
-    };
-    Ok(Made { value, past })
+    add_at_once(rt, &funnel, passes, round.times)
 }
 
-// The last of some passes.
-fn last_of(funnel: &Funnel, passes: &mut Vec<Pass>) -> Option<Pass>
-    requires together { All (λ p. IsOf funnel.now p) passes.old.items }
-    requires idle { All IsWhole passes.old.items }
-    ensures together { All (λ p. IsOf funnel.now p) passes.new.items }
-    ensures idle { All IsWhole passes.new.items }
-    ensures pass { IfSome result (λ p. IsOf funnel.now p × IsIdle p.seen p.number) }
-{
-    passes.pop()
-}
-
-// A thread for each pass, which makes so many additions: how many of them went past the funnel.
+// A thread for each pass, which makes so many additions. The value is the greatest that one of them left.
 fn add_at_once<R: Threads + Wait + Sync>(
     rt: &R,
     funnel: &Funnel,
     passes: Vec<Pass>,
     times: u32,
-) -> Result<u64, AllocError>
+) -> Result<Made, AllocError>
     requires together { All (λ p. IsOf funnel.now p) passes.items }
     requires idle { All IsWhole passes.items }
 {
     let ended = thread::map_vec(
         rt,
         passes,
-        &|pass| -> u64
+        &|pass| -> Made
             requires { IsOf funnel.now pass × IsIdle pass.seen pass.number }
         { add_ones(rt, funnel, pass, times) },
     )?;
-    let mut all = 0u64;
-    for past in ended {
-        all = all.wrapping_add(past);
+    let mut all = Made { value: 0, past: 0 };
+    for made in ended {
+        all.value = all.value.max(made.value);
+        all.past = all.past.saturating_add(made.past);
     }
     Ok(all)
 }
 
-// So many additions of 1 through the funnel: how many of them went past it.
-fn add_ones<R: Wait>(rt: &R, funnel: &Funnel, pass: Pass, times: u32) -> u64
+// So many additions of 1 through the funnel: what the last of them left, and how many went past it.
+fn add_ones<R: Wait>(rt: &R, funnel: &Funnel, pass: Pass, times: u32) -> Made
     requires together { IsOf funnel.now pass }
     requires idle { IsIdle pass.seen pass.number }
 {
     let mut pass = pass;
-    let mut past = 0u64;
+    let mut made = Made { value: 0, past: 0 };
     for _ in 0..times {
         if pass.allowance() == 0 {
-            return past;
+            return made;
         }
         let (next, added) = add(rt, funnel, pass, 1);
+        made.value = added.before.saturating_add(1);
         match added.way {
             Way::Funnel => {}
-            Way::Direct(_) => past = past.wrapping_add(1),
+            Way::Direct(_) => made.past = made.past.saturating_add(1),
         }
         pass = next;
     }
-    past
+    made
 }
 
 // On one word, by a fetch-and-add each.
