@@ -1,32 +1,30 @@
 -- One more answer that is gathered.
 use Rattle.std.proofs.Common.{◌≡◌, ◌+◌, ◌<◌, ℕ, suc, List, [], ◌∷◌, ◌++◌, length, take, set, get_or, refl, sym, ap, ◌∙◌, subst, arith, inl, inr, append-nil, append_assoc, get_or-set_same, get_or-set_other}
 use Rattle.std.proofs.lemmas.Bool.{cases_eq}
-use Rattle.std.proofs.lemmas.List.{take_more, length-map, get_or_default}
+use Rattle.std.proofs.lemmas.List.{take_more, length-map}
 use Rattle.quota_pool.specs.declared.moved.Moved.{Moved}
 use Rattle.trace_text.specs.declared.traces.Row.{Row}
-use Rattle.replay_run.specs.declared.places.Job.{Job}
-use Rattle.replay_run.specs.declared.places.Place.{Place}
-use Rattle.replay_run.specs.Work.{of_worker, jobs_of, AreDealt, job_at, gathered_from, gathered}
-use Rattle.replay_run.proofs.Rows.{no_row, own_count, own_within, other_more}
+use Rattle.replay_run.specs.Work.{Job, Seat, no_row, of_worker, jobs_of, AreDealt, job_at, gathered_from, gathered}
+use Rattle.replay_run.proofs.Rows.{own_count, own_within, other_more}
 
-abbrev pub no_place : Place
-no_place = record { desk = record { worker = 0; passes = [] }; jobs = [] }
+abbrev pub no_seat : Seat
+no_seat = record { desk = record { worker = 0; passes = [] }; jobs = [] }
 
 -- the answer of a row behind earlier ones
-abbrev pub answer_of : List Row → List Place → Row → Moved
+abbrev pub answer_of : List Row → List Seat → Row → Moved
 answer_of earlier places row = (job_at (jobs_of places row.worker) (length (of_worker row.worker earlier))).answer
 
-gathered-push : (earlier : List Row) (places : List Place) (rows : List Row) (row : Row) → gathered_from earlier places (rows ++ row ∷ []) ≡ gathered_from earlier places rows ++ answer_of (earlier ++ rows) places row ∷ []
+gathered-push : (earlier : List Row) (places : List Seat) (rows : List Row) (row : Row) → gathered_from earlier places (rows ++ row ∷ []) ≡ gathered_from earlier places rows ++ answer_of (earlier ++ rows) places row ∷ []
 gathered-push earlier places [] row = ap (λ (e : List Row). answer_of e places row ∷ []) (sym (append-nil earlier))
 gathered-push earlier places (first ∷ rows) row =
     ap (λ (answers : List Moved). answer_of earlier places first ∷ answers)
     (gathered-push (earlier ++ first ∷ []) places rows row ∙ ap (λ (e : List Row). gathered_from (earlier ++ first ∷ []) places rows ++ answer_of e places row ∷ []) (append_assoc earlier (first ∷ []) rows))
 
-pub length_gathered : (earlier : List Row) (places : List Place) (rows : List Row) → length (gathered_from earlier places rows) ≡ length rows
+pub length_gathered : (earlier : List Row) (places : List Seat) (rows : List Row) → length (gathered_from earlier places rows) ≡ length rows
 length_gathered earlier places [] = refl
 length_gathered earlier places (row ∷ rows) = ap suc (length_gathered (earlier ++ row ∷ []) places rows)
 
-module _ (rows : List Row) (places : List Place) (i : ℕ) (within : i < length rows) where
+module _ (rows : List Row) (places : List Seat) (i : ℕ) (within : i < length rows) where
   abbrev row : Row
   row = get_or rows i no_row
 
@@ -50,7 +48,3 @@ module _ (rows : List Row) (places : List Place) (i : ℕ) (within : i < length 
         | inr other ↦
             get_or-set_other next row.worker worker (get_or next row.worker 0 + 1) 0 other ∙ known worker below ∙ sym (ap length (other_more rows i within worker (λ e. other (sym e))))
       ]
-
--- the jobs of the place that is found
-pub jobs_there : (places : List Place) (worker : ℕ) (place : Place) → worker < length places → place ≡ get_or places worker place → place.jobs ≡ jobs_of places worker
-jobs_there places worker place within is = ap (λ (p : Place). p.jobs) (is ∙ get_or_default places worker place no_place within)

@@ -1,5 +1,5 @@
 -- A segment's last steps, by what its workers have left.
-use Rattle.std.proofs.Common.{◌≡◌, ◌<◌, ◌++◌, [], take, ℕ, List, length, map, get_or, slice_get, Some, Vec, refl, sym, ap, ◌∙◌, subst, arith, All}
+use Rattle.std.proofs.Common.{◌≡◌, ◌<◌, [], take, ℕ, List, length, map, get_or, slice_get, Some, Vec, refl, sym, ap, ◌∙◌, subst, arith, All}
 use Rattle.std.proofs.lemmas.List.{length-map, with_items_is, get_or-map}
 use Rattle.std.proofs.lemmas.Option.{slice_get_within, get_or_from_slice_get}
 use Rattle.std.specs.declared.alloc.Global.{Global}
@@ -16,56 +16,62 @@ use Rattle.trace_text.specs.declared.traces.Tenant.{Tenant}
 use Rattle.replay_run.specs.declared.places.Place.{Place}
 use Rattle.replay_run.specs.Replay.{IsBook, IsAnswered}
 use Rattle.replay_run.specs.Ready.{IsSoundSegment, IsReady, Adds}
-use Rattle.replay_run.specs.Work.{MayWork, Worked, desks_in, AreDealt, gathered}
+use Rattle.replay_run.specs.Work.{Seat, MayWork, Worked, AreMade, desks_at, desks_in, seat_of, seats, gathered}
 use Rattle.replay_run.proofs.Counts.{length_gathered}
 use Rattle.replay_run.proofs.NoFault.{workers_there}
-use Rattle.replay_run.proofs.Whole.{count_places, may_work, still_dealt, still_together, still_all, is_book, is_answered}
+use Rattle.replay_run.proofs.Whole.{count_places, may_work, still_together, still_all, is_book, is_answered}
 
 -- the caps of tenants
 abbrev pub caps_in : List Tenant → List ℕ
 caps_in tenants = map (λ (tenant : Tenant). tenant.cap) tenants
 
 module _ (workers : ℕ) (tenants : List Tenant) (caps openings : List ℕ) (rows : List Row) (pool : PoolView) (v : Vec Place Global) (before : List Place)
-    (same : caps ≡ caps_in tenants) (whole : IsSoundSegment workers (caps_in tenants) openings rows) (ready : IsReady workers caps openings rows pool v.items) (is : before ≡ v.items) where
+    (same : caps ≡ caps_in tenants) (whole : IsSoundSegment workers (caps_in tenants) openings rows) (ready : IsReady workers caps openings rows pool (seats rows v.items)) (is : before ≡ v.items) where
   sound : IsSoundSegment workers caps openings rows
   sound = subst (λ (cs : List ℕ). IsSoundSegment workers cs openings rows) (sym same) whole
 
+  all_seats : length (seats rows v.items) ≡ workers
+  all_seats = count_places workers caps openings rows pool (seats rows v.items) sound ready
+
   pub count_before : length before ≡ workers
-  count_before = ap length is ∙ count_places workers caps openings rows pool v.items sound ready
+  count_before = ap length is ∙ sym (length-map v.items (seat_of rows)) ∙ all_seats
 
-  pub may_begin : All (MayWork pool) before
-  may_begin = subst (λ (ps : List Place). All (MayWork pool) ps) (sym is) (may_work workers caps openings rows pool v.items sound ready)
+  pub may_begin : All (MayWork pool) (seats rows before)
+  may_begin = subst (λ (ps : List Place). All (MayWork pool) (seats rows ps)) (sym is) (may_work workers caps openings rows pool (seats rows v.items) sound ready)
 
-  module _ (after : List Place) (size : length after ≡ length before) (worked : (worker : ℕ) (d : Place) → worker < length before → Worked pool (get_or before worker d) (get_or after worker d)) where
-    -- what the places hold in the end
-    abbrev done : List Place
-    done = (with_items v after).items
+  pub rows_there : All (λ (row : Row). row.worker < length before) rows
+  rows_there = λ k d within. omega (arith, count_before, workers_there workers (length caps) rows sound.sound k d within)
 
-    done_is : done ≡ after
-    done_is = with_items_is v after (size ∙ ap length is ∙ sym v.ok.0)
+  module _ (old new : List Moved) (after : List Place) (made : AreMade pool rows before old after new) where
+    -- what the workers have done in the end
+    abbrev done : List Seat
+    done = made.done
 
-    long : length done ≡ length v.items
-    long = ap length done_is ∙ size ∙ ap length is
+    long : length done ≡ length (seats rows v.items)
+    long = made.count ∙ ap length is ∙ sym (length-map v.items (seat_of rows))
 
-    so : (worker : ℕ) (d : Place) → worker < length v.items → Worked pool (get_or v.items worker d) (get_or done worker d)
+    so : (worker : ℕ) (d : Seat) → worker < length (seats rows v.items) → Worked pool (get_or (seats rows v.items) worker d) (get_or done worker d)
     so worker d within =
-        subst (λ (ps : List Place). Worked pool (get_or v.items worker d) (get_or ps worker d)) (sym done_is)
-        (subst (λ (ps : List Place). Worked pool (get_or ps worker d) (get_or after worker d)) is (worked worker d (subst (λ (ps : List Place). worker < length ps) (sym is) within)))
+        subst (λ (ps : List Place). Worked pool (get_or (seats rows ps) worker d) (get_or done worker d)) is
+        (made.worked worker d (omega (arith, within, length-map v.items (seat_of rows), ap length is)))
 
-    pub count_done : length done ≡ workers
-    count_done = long ∙ count_places workers caps openings rows pool v.items sound ready
+    size : length after ≡ length before
+    size = sym (length-map after (λ (p : Place). p.desk)) ∙ ap length made.desks ∙ length-map done (λ (s : Seat). s.desk) ∙ made.count
 
-    pub rows_there : All (λ (row : Row). row.worker < length done) rows
-    rows_there = λ k d within. omega (arith, count_done, workers_there workers (length caps) rows sound.sound k d within)
+    left_is : (with_items v after).items ≡ after
+    left_is = with_items_is v after (size ∙ ap length is ∙ sym v.ok.0)
 
-    pub dealt_done : AreDealt rows done
-    dealt_done = still_dealt workers caps openings rows pool v.items sound ready done long so
+    pub desks_left : desks_at (with_items v after).items ≡ desks_in done
+    desks_left = ap desks_at left_is ∙ made.desks
+
+    pub count_done : length (with_items v after).items ≡ workers
+    count_done = ap length left_is ∙ size ∙ count_before
 
     pub together_done : All (Belongs pool) (desks_in done)
-    together_done = still_together workers caps openings rows pool v.items sound ready done long so
+    together_done = still_together workers caps openings rows pool (seats rows v.items) sound ready done long so
 
     pub all_done : map (λ (d : DeskView). d.worker) (desks_in done) ≡ upto pool.workers
-    all_done = still_all workers caps openings rows pool v.items sound ready done long so
+    all_done = still_all workers caps openings rows pool (seats rows v.items) sound ready done long so
 
     module _ (books : List CoreLog) (told : TellsBooks pool (desks_in done) books) (closed : AreClosed (desks_in done) books) where
       count_books : length books ≡ length tenants
@@ -76,17 +82,17 @@ module _ (workers : ℕ) (tenants : List Tenant) (caps openings : List ℕ) (row
           let table = found_at pool.tables t (omega (arith, slice_get_within books t book there, told.tenants)) in
           let cap : get_or caps t 0 ≡ tenant.cap =
           ap (λ (cs : List ℕ). get_or cs t 0) same ∙ get_or-map (λ (x : Tenant). x.cap) tenants t tenant 0 (slice_get_within tenants t tenant here) ∙ ap (λ (x : Tenant). x.cap) (get_or_from_slice_get tenants t tenant tenant here) in
-          subst (λ (n : ℕ). IsBook workers n (get_or openings t 0) t rows book) cap (is_book workers caps openings rows pool v.items sound ready done long so books told closed t table.0 book table.1 there)
+          subst (λ (n : ℕ). IsBook workers n (get_or openings t 0) t rows book) cap (is_book workers caps openings rows pool (seats rows v.items) sound ready done long so books told closed t table.0 book table.1 there)
 
       each_answer : (k : ℕ) (row : Row) (answer : Moved) (book : CoreLog) → slice_get rows k ≡ Some row → slice_get (gathered rows done) k ≡ Some answer → slice_get books row.tenant ≡ Some book → IsAnswered (take k rows) row answer book
       each_answer k row answer book here got there =
           let table = found_at pool.tables row.tenant (omega (arith, slice_get_within books row.tenant book there, told.tenants)) in
-          is_answered workers caps openings rows pool v.items sound ready done long so books told closed row.tenant table.0 book table.1 there k row answer here got refl
+          is_answered workers caps openings rows pool (seats rows v.items) sound ready done long so books told closed row.tenant table.0 book table.1 there k row answer here got refl
 
-      pub adds : (old new : List Moved) → new ≡ old ++ gathered rows done → Adds workers tenants openings rows old new books
-      adds old new is_new = record {
+      pub adds : Adds workers tenants openings rows old new books
+      adds = record {
         answers = gathered rows done;
-        added = is_new;
+        added = made.added;
         segment = record {
           one_each = length_gathered [] done rows;
           all = count_books;

@@ -16,3 +16,6 @@ pub mod Raised
 pub mod Behind
 pub mod Lengths
 pub mod Claims
+pub mod Seated
+pub mod Together
+pub mod Alone

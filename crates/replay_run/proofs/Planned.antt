@@ -7,8 +7,8 @@ use Rattle.std.proofs.lemmas.List.Sums.{sum_by_push, sum_by-take-le}
 use Rattle.trace_text.specs.SoundTrace.{amounts}
 use Rattle.trace_text.specs.declared.traces.Row.{Row}
 use Rattle.replay_run.specs.Ready.{ArePlanned}
-use Rattle.replay_run.specs.Work.{of_worker}
-use Rattle.replay_run.proofs.Rows.{no_row, own_more, other_more, own_amounts}
+use Rattle.replay_run.specs.Work.{no_row, of_worker}
+use Rattle.replay_run.proofs.Rows.{own_more, other_more, own_amounts}
 use Rattle.replay_run.proofs.Runs.{asks, asks_own}
 
 -- plans that allow nothing, before the first row

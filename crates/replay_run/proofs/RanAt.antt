@@ -16,9 +16,8 @@ use Rattle.quota_pool.specs.Views.{PoolView, DeskView}
 use Rattle.quota_pool.specs.Calls.{Called as PassCalled}
 use Rattle.quota_pool.specs.declared.moved.Moved.{Moved}
 use Rattle.trace_text.specs.declared.traces.Row.{Row}
-use Rattle.replay_run.specs.declared.places.Job.{Job}
 use Rattle.replay_run.specs.Segments.{kind_of, goes_through, rows_of, call_of, call_after, calls_from}
-use Rattle.replay_run.specs.Work.{rows_in, Ran}
+use Rattle.replay_run.specs.Work.{Job, rows_in, Ran}
 use Rattle.replay_run.proofs.Runs.{other_place}
 use Rattle.replay_run.proofs.Numbered.{length_calls, calls_push, rows_push, rows_pass}
 

@@ -4,12 +4,8 @@ use Rattle.std.proofs.lemmas.List.Elements.{filter_more}
 use Rattle.std.proofs.lemmas.List.Filters.{length-filter_more, sum_by-filter_both}
 use Rattle.std.proofs.lemmas.List.Sums.{sum_by-take-le, length-filter, count_by-le-length}
 use Rattle.trace_text.specs.SoundTrace.{amounts}
-use Rattle.trace_text.specs.declared.traces.Op.TheVariants.{Add}
 use Rattle.trace_text.specs.declared.traces.Row.{Row}
-use Rattle.replay_run.specs.Work.{of_worker}
-
-abbrev pub no_row : Row
-no_row = record { at = 0; worker = 0; op = Add; tenant = 0; amount = 0 }
+use Rattle.replay_run.specs.Work.{no_row, of_worker}
 
 -- what changes nothing that f sees changes nothing of all that it sees
 pub same_after : {A B : Type 0} (f : A → B) (xs : List A) (i : ℕ) (x d : A) → f x ≡ f (get_or xs i d) → map f (set xs i x) ≡ map f xs

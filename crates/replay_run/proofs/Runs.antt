@@ -1,5 +1,5 @@
 -- A desk makes the calls of its worker's jobs.
-use Rattle.std.proofs.Common.{◌≡◌, ◌≢◌, ◌<◌, ◌≤◌, ◌==◌, ℕ, zero, suc, List, [], ◌∷◌, ◌++◌, length, set, get_or, slice_get, refl, sym, ap, ◌∙◌, subst, arith, inl, inr, eq-eqb, if◌then◌else◌}
+use Rattle.std.proofs.Common.{◌≡◌, ◌≢◌, ◌<◌, ◌≤◌, ◌==◌, ℕ, zero, suc, List, [], ◌∷◌, ◌++◌, length, set, slice_get, refl, sym, ap, ◌∙◌, subst, arith, inl, inr, eq-eqb, if◌then◌else◌}
 use Rattle.std.proofs.lemmas.Bool.{cases_eq}
 use Rattle.std.proofs.lemmas.List.Sums.{sum_by-cons}
 use Rattle.std.proofs.lemmas.List.Elements.{All-head, All-tail}
@@ -9,20 +9,13 @@ use Rattle.quota_pool.proofs.Laws.{left_after}
 use Rattle.quota_pool.specs.declared.moved.Moved.{Moved}
 use Rattle.trace_text.specs.SoundTrace.{IsSoundRow, amounts}
 use Rattle.trace_text.specs.declared.traces.Row.{Row}
-use Rattle.replay_run.specs.declared.places.Job.{Job}
 use Rattle.replay_run.specs.Segments.{kind_of}
-use Rattle.replay_run.specs.Work.{rows_in, MayRun, Called, Ran}
+use Rattle.replay_run.specs.Work.{Job, MayRun, Called, Ran}
 
 -- one call more
 pub ran_more : (pool : PoolView) (old : DeskView) (jobs : List Job) (mid : DeskView) (job : Job) (new : DeskView) → Ran pool old jobs mid → Called pool mid job new → Ran pool old (jobs ++ job ∷ []) new
 ran_more pool old [] mid job new is called = (new, subst (λ (d : DeskView). Called pool d job new) is called, refl)
 ran_more pool old (first ∷ jobs) mid job new (next, made, rest) called = (next, made, ran_more pool next jobs mid job new rest called)
-
--- a job that is answered keeps its row
-pub same_rows : (jobs : List Job) (i : ℕ) (job d : Job) → job.row ≡ (get_or jobs i d).row → rows_in (set jobs i job) ≡ rows_in jobs
-same_rows [] i job d same = refl
-same_rows (first ∷ jobs) zero job d same = ap (λ (row : Row). row ∷ rows_in jobs) same
-same_rows (first ∷ jobs) (suc i) job d same = ap (λ (rows : List Row). first.row ∷ rows) (same_rows jobs i job d same)
 
 -- every other place of a changed list stays
 pub other_place : {A : Type 0} (xs : List A) (i j : ℕ) (x : A) → j ≢ i → slice_get (set xs i x) j ≡ slice_get xs j

@@ -33,14 +33,12 @@ use Rattle.quota_pool.specs.declared.moved.Moved.{Moved}
 use Rattle.quota_pool.proofs.Laws.{seen_in_book}
 use Rattle.trace_text.specs.SoundTrace.{IsSoundRow, amounts}
 use Rattle.trace_text.specs.declared.traces.Row.{Row}
-use Rattle.replay_run.specs.declared.places.Job.{Job}
-use Rattle.replay_run.specs.declared.places.Place.{Place}
 use Rattle.replay_run.specs.Segments.{kind_of, rows_of, call_of, call_after, calls_from}
 use Rattle.replay_run.specs.Replay.{IsBook, IsAnswered}
 use Rattle.replay_run.specs.Ready.{IsSoundSegment, IsReady}
-use Rattle.replay_run.specs.Work.{rows_in, of_worker, MayRun, MayWork, Ran, Worked, desks_in, jobs_of, AreDealt, job_at, gathered_from, gathered}
+use Rattle.replay_run.specs.Work.{Job, Seat, rows_in, of_worker, MayRun, MayWork, Ran, Worked, desks_in, jobs_of, AreDealt, job_at, gathered_from, gathered}
 use Rattle.replay_run.proofs.Behind.{meets_later}
-use Rattle.replay_run.proofs.Counts.{no_place, answer_of}
+use Rattle.replay_run.proofs.Counts.{no_seat, answer_of}
 use Rattle.replay_run.proofs.NoFault.{none_from, workers_there, tenants_there}
 use Rattle.replay_run.proofs.Numbered.{rows_own}
 use Rattle.replay_run.proofs.RanAt.{Reached, RanAt, came}
@@ -92,7 +90,7 @@ taken_before [] ys = refl
 taken_before (z ∷ xs) ys = ap (λ zs. z ∷ zs) (taken_before xs ys)
 
 -- the answer that was gathered for a row
-gathered_at : (earlier : List Row) (places : List Place) (rows : List Row) (k : ℕ) (row : Row) → slice_get rows k ≡ Some row → slice_get (gathered_from earlier places rows) k ≡ Some (answer_of (earlier ++ take k rows) places row)
+gathered_at : (earlier : List Row) (places : List Seat) (rows : List Row) (k : ℕ) (row : Row) → slice_get rows k ≡ Some row → slice_get (gathered_from earlier places rows) k ≡ Some (answer_of (earlier ++ take k rows) places row)
 gathered_at earlier places [] k row none = absurd (none-some row none)
 gathered_at earlier places (first ∷ rows) zero row is =
     ap (λ (r : Row). Some (answer_of earlier places r)) (same_Some first row is) ∙ ap (λ (e : List Row). Some (answer_of e places row)) (sym (nothing earlier))
@@ -113,19 +111,19 @@ enters_later : (way : Option Way) (old new : CoreLog) → IsLegal new → new.st
 enters_later (Some way) old new legal same begins call = entered_stays way old new legal same begins call
 enters_later None old new legal same begins call = (entries_stay old new legal same begins call).0
 
-module _ (workers : ℕ) (caps openings : List ℕ) (rows : List Row) (pool : PoolView) (places : List Place) (sound : IsSoundSegment workers caps openings rows) (ready : IsReady workers caps openings rows pool places) where
+module _ (workers : ℕ) (caps openings : List ℕ) (rows : List Row) (pool : PoolView) (places : List Seat) (sound : IsSoundSegment workers caps openings rows) (ready : IsReady workers caps openings rows pool places) where
   pub count_places : length places ≡ workers
   count_places =
-      sym (length-map places (λ (p : Place). p.desk)) ∙ ap length ready.opened.fresh ∙ length-map (upto workers) (fresh_desk pool.tables) ∙ length_numbers 0 workers
+      sym (length-map places (λ (p : Seat). p.desk)) ∙ ap length ready.opened.fresh ∙ length-map (upto workers) (fresh_desk pool.tables) ∙ length_numbers 0 workers
 
   tables_count : length pool.tables ≡ length caps
   tables_count = ready.opened.tenants ∙ sound.one_each
 
-  desk_at : (worker : ℕ) → worker < workers → (get_or places worker no_place).desk ≡ fresh_desk pool.tables worker
+  desk_at : (worker : ℕ) → worker < workers → (get_or places worker no_seat).desk ≡ fresh_desk pool.tables worker
   desk_at worker below =
       let d : DeskView = fresh_desk pool.tables 0 in
       let within : worker < length places = omega (arith, below, count_places) in
-      sym (get_or-map (λ (p : Place). p.desk) places worker no_place d within) ∙ ap (λ (ds : List DeskView). get_or ds worker d) ready.opened.fresh
+      sym (get_or-map (λ (p : Seat). p.desk) places worker no_seat d within) ∙ ap (λ (ds : List DeskView). get_or ds worker d) ready.opened.fresh
       ∙ get_or-map (fresh_desk pool.tables) (upto workers) worker 0 d (omega (arith, below, length_numbers 0 workers)) ∙ ap (fresh_desk pool.tables) (let e = number_at 0 workers worker below 0 in omega (arith, e))
 
   -- a worker's pass of a table has made no step of its own
@@ -134,10 +132,10 @@ module _ (workers : ℕ) (caps openings : List ℕ) (rows : List Row) (pool : Po
       let found : slice_get (fresh_desk pool.tables worker).passes tenant ≡ Some (fresh table worker) =
       slice_get-map (λ (t : TableView). fresh t worker) pool.tables tenant ∙ ap (λ (o : Option TableView). option_map (λ (t : TableView). fresh t worker) o) at in
       let within : worker < length places = omega (arith, below, count_places) in
-      let desks : worker < length (desks_in places) = omega (arith, within, length-map places (λ (p : Place). p.desk)) in
+      let desks : worker < length (desks_in places) = omega (arith, within, length-map places (λ (p : Seat). p.desk)) in
       let d : DeskView = fresh_desk pool.tables 0 in
       let all : All IsNew (get_or (desks_in places) worker d).passes = ready.opened.new worker d desks in
-      let is : get_or (desks_in places) worker d ≡ fresh_desk pool.tables worker = get_or-map (λ (p : Place). p.desk) places worker no_place d within ∙ desk_at worker below in
+      let is : get_or (desks_in places) worker d ≡ fresh_desk pool.tables worker = get_or-map (λ (p : Seat). p.desk) places worker no_seat d within ∙ desk_at worker below in
       let new : All IsNew (fresh_desk pool.tables worker).passes = subst (λ (x : DeskView). All IsNew x.passes) is all in
       let p : PassView = fresh table worker in
       let inside = slice_get_within (fresh_desk pool.tables worker).passes tenant p found in
@@ -164,70 +162,70 @@ module _ (workers : ℕ) (caps openings : List ℕ) (rows : List Row) (pool : Po
   pub may_work : All (MayWork pool) places
   may_work = λ worker d within.
       let below : worker < workers = omega (arith, within, count_places) in
-      let is : get_or places worker no_place ≡ get_or places worker d = get_or_default places worker no_place d within in
+      let is : get_or places worker no_seat ≡ get_or places worker d = get_or_default places worker no_seat d within in
       let desk = desk_at worker below in
       let mine : rows_in (jobs_of places worker) ≡ of_worker worker rows = ready.dealt worker within in
-      let desks : worker < length (desks_in places) = omega (arith, within, length-map places (λ (p : Place). p.desk)) in
+      let desks : worker < length (desks_in places) = omega (arith, within, length-map places (λ (p : Seat). p.desk)) in
       let first : DeskView = fresh_desk pool.tables 0 in
-      let together : Belongs pool (get_or places worker no_place).desk = subst (Belongs pool) (get_or-map (λ (p : Place). p.desk) places worker no_place first within) (ready.opened.together worker first desks) in
+      let together : Belongs pool (get_or places worker no_seat).desk = subst (Belongs pool) (get_or-map (λ (p : Seat). p.desk) places worker no_seat first within) (ready.opened.together worker first desks) in
       let SoundHere : ℕ → ℕ → Type 0 = λ ws ts. All (IsSoundRow ws ts) (of_worker worker rows) in
       let here : SoundHere workers (length caps) = All-filter (λ (row : Row). row.worker == worker) (IsSoundRow workers (length caps)) rows sound.sound in
       let there : SoundHere pool.workers (length pool.tables) = subst (λ (n : ℕ). SoundHere pool.workers n) (sym tables_count) (subst (λ (n : ℕ). SoundHere n (length caps)) (sym ready.opened.count) here) in
-      let may : MayRun pool (get_or places worker no_place).desk (of_worker worker rows) = record {
+      let may : MayRun pool (get_or places worker no_seat).desk (of_worker worker rows) = record {
         together = together;
         sound = there;
         left = λ tenant. subst (λ (x : DeskView). amounts tenant (of_worker worker rows) ≤ left_at x tenant) (sym desk) (enough worker below tenant);
       } in
-      subst (MayWork pool) is (subst (MayRun pool (get_or places worker no_place).desk) (sym mine) may)
+      subst (MayWork pool) is (subst (MayRun pool (get_or places worker no_seat).desk) (sym mine) may)
 
   -- after all workers have made their calls
-  module _ (done : List Place) (size : length done ≡ length places) (worked : (worker : ℕ) (d : Place) → worker < length places → Worked pool (get_or places worker d) (get_or done worker d)) where
+  module _ (done : List Seat) (size : length done ≡ length places) (worked : (worker : ℕ) (d : Seat) → worker < length places → Worked pool (get_or places worker d) (get_or done worker d)) where
     pub still_dealt : AreDealt rows done
     still_dealt worker within =
         let inside : worker < length places = omega (arith, within, size) in
-        (worked worker no_place inside).rows ∙ ready.dealt worker inside
+        (worked worker no_seat inside).rows ∙ ready.dealt worker inside
 
-    belongs_before : (worker : ℕ) → worker < length places → Belongs pool (get_or places worker no_place).desk
+    belongs_before : (worker : ℕ) → worker < length places → Belongs pool (get_or places worker no_seat).desk
     belongs_before worker within =
         let first : DeskView = fresh_desk pool.tables 0 in
-        subst (Belongs pool) (get_or-map (λ (p : Place). p.desk) places worker no_place first within) (ready.opened.together worker first (omega (arith, within, length-map places (λ (p : Place). p.desk))))
+        subst (Belongs pool) (get_or-map (λ (p : Seat). p.desk) places worker no_seat first within) (ready.opened.together worker first (omega (arith, within, length-map places (λ (p : Seat). p.desk))))
 
-    one_of : (worker : ℕ) → worker < length places → Belongs pool (get_or done worker no_place).desk × ((get_or done worker no_place).desk.worker ≡ (get_or places worker no_place).desk.worker)
+    one_of : (worker : ℕ) → worker < length places → Belongs pool (get_or done worker no_seat).desk × ((get_or done worker no_seat).desk.worker ≡ (get_or places worker no_seat).desk.worker)
     one_of worker within =
-        let was = worked worker no_place within in
-        still_one pool (get_or places worker no_place).desk (get_or done worker no_place).jobs (get_or done worker no_place).desk was.ran (belongs_before worker within)
+        let was = worked worker no_seat within in
+        still_one pool (get_or places worker no_seat).desk (get_or done worker no_seat).jobs (get_or done worker no_seat).desk was.ran (belongs_before worker within)
 
     pub still_together : All (Belongs pool) (desks_in done)
     still_together = λ worker d within.
-        let inside : worker < length done = omega (arith, within, length-map done (λ (p : Place). p.desk)) in
-        subst (Belongs pool) (sym (get_or-map (λ (p : Place). p.desk) done worker no_place d inside)) (one_of worker (omega (arith, inside, size))).0
+        let inside : worker < length done = omega (arith, within, length-map done (λ (p : Seat). p.desk)) in
+        subst (Belongs pool) (sym (get_or-map (λ (p : Seat). p.desk) done worker no_seat d inside)) (one_of worker (omega (arith, inside, size))).0
 
     pub still_all : map (λ (d : DeskView). d.worker) (desks_in done) ≡ upto pool.workers
     still_all =
-        let long : length (map (λ (d : DeskView). d.worker) (desks_in done)) ≡ length places = length-map (desks_in done) (λ (d : DeskView). d.worker) ∙ length-map done (λ (p : Place). p.desk) ∙ size in
+        let long : length (map (λ (d : DeskView). d.worker) (desks_in done)) ≡ length places = length-map (desks_in done) (λ (d : DeskView). d.worker) ∙ length-map done (λ (p : Seat). p.desk) ∙ size in
         let count : length (upto workers) ≡ workers = length_numbers 0 workers in
         let same : map (λ (d : DeskView). d.worker) (desks_in done) ≡ upto workers =
         same_lists (map (λ (d : DeskView). d.worker) (desks_in done)) (upto workers) (omega (arith, long, count, count_places)) (λ k d within.
         let inside : k < length places = omega (arith, within, long) in
         let below : k < workers = omega (arith, inside, count_places) in
         let first : DeskView = fresh_desk pool.tables 0 in
-        get_or-map (λ (x : DeskView). x.worker) (desks_in done) k first d (omega (arith, inside, size, length-map done (λ (p : Place). p.desk)))
-        ∙ ap (λ (x : DeskView). x.worker) (get_or-map (λ (p : Place). p.desk) done k no_place first (omega (arith, inside, size)))
+        get_or-map (λ (x : DeskView). x.worker) (desks_in done) k first d (omega (arith, inside, size, length-map done (λ (p : Seat). p.desk)))
+        ∙ ap (λ (x : DeskView). x.worker) (get_or-map (λ (p : Seat). p.desk) done k no_seat first (omega (arith, inside, size)))
         ∙ (one_of k inside).1 ∙ ap (λ (x : DeskView). x.worker) (desk_at k below) ∙ (let e = number_at 0 workers k below d in omega (arith, e))) in
         same ∙ ap upto (sym ready.opened.count)
 
     -- a worker's pass of a table, as it is in the end
     pub came_to : (worker : ℕ) → worker < workers → (tenant : ℕ) (table : TableView) → slice_get pool.tables tenant ≡ Some table
-        → (q : PassView) × (slice_get (get_or done worker no_place).desk.passes tenant ≡ Some q) × RanAt worker tenant (fresh table worker) q [] (jobs_of done worker)
+        → (q : PassView) × (slice_get (get_or done worker no_seat).desk.passes tenant ≡ Some q) × RanAt worker tenant (fresh table worker) q [] (jobs_of done worker)
     came_to worker below tenant table at =
         let within : worker < length places = omega (arith, below, count_places) in
-        let was = worked worker no_place within in
+        let was = worked worker no_seat within in
         let new = new_pass worker below tenant table at in
-        let found : slice_get (get_or places worker no_place).desk.passes tenant ≡ Some (fresh table worker) = ap (λ (x : DeskView). slice_get x.passes tenant) (desk_at worker below) ∙ new.0 in
+        let found : slice_get (get_or places worker no_seat).desk.passes tenant ≡ Some (fresh table worker) = ap (λ (x : DeskView). slice_get x.passes tenant) (desk_at worker below) ∙ new.0 in
         let mine : rows_in (jobs_of done worker) ≡ of_worker worker rows = still_dealt worker (omega (arith, within, size)) in
         let tested : All (λ (row : Row). row.worker ≡ worker) (of_worker worker rows) = λ k d inside. (let test : ((get_or (of_worker worker rows) k d).worker == worker) ≡ true = filter_passes (λ (row : Row). row.worker == worker) rows k d inside in grind (arith, nat_tests, test)) in
         let all : All (λ (job : Job). job.row.worker ≡ worker) (jobs_of done worker) = jobs_all (λ (row : Row). row.worker ≡ worker) (jobs_of done worker) (All-same (λ (row : Row). row.worker ≡ worker) (rows_in (jobs_of done worker)) (of_worker worker rows) mine tested) in
-        came pool worker tenant (get_or places worker no_place).desk (jobs_of done worker) (get_or done worker no_place).desk (fresh table worker) [] was.ran all found refl (ap (own worker) new.1.2)
+        came pool worker tenant (get_or places worker no_seat).desk (jobs_of done worker) (get_or done worker no_seat).desk (fresh table worker) [] was.ran all found refl (ap (own worker) new.1.2)
 
     module _ (books : List CoreLog) (told : TellsBooks pool (desks_in done) books) (closed : AreClosed (desks_in done) books) (tenant : ℕ) (table : TableView) (book : CoreLog) (at : slice_get pool.tables tenant ≡ Some table) (there : slice_get books tenant ≡ Some book) where
       abbrev tells : TellsBook tenant table (desks_in done) book
@@ -236,10 +234,10 @@ module _ (workers : ℕ) (caps openings : List ℕ) (rows : List Row) (pool : Po
       abbrev joins : IsClosed (passes_at tenant (desks_in done)) book
       joins = closed tenant book there
 
-      desk_there : (worker : ℕ) → worker < workers → slice_get (desks_in done) worker ≡ Some (get_or done worker no_place).desk
+      desk_there : (worker : ℕ) → worker < workers → slice_get (desks_in done) worker ≡ Some (get_or done worker no_seat).desk
       desk_there worker below =
           let within : worker < length done = omega (arith, below, count_places, size) in
-          slice_get-map (λ (p : Place). p.desk) done worker ∙ ap (λ (o : Option Place). option_map (λ (p : Place). p.desk) o) (slice_get-get_or done worker no_place within)
+          slice_get-map (λ (p : Seat). p.desk) done worker ∙ ap (λ (o : Option Seat). option_map (λ (p : Seat). p.desk) o) (slice_get-get_or done worker no_seat within)
 
       opened_so : OpensWith workers (get_or openings tenant 0) (get_or caps tenant 0) (get_or ready.plans tenant []) table
       opened_so = opens_with tenant table at
@@ -250,14 +248,14 @@ module _ (workers : ℕ) (caps openings : List ℕ) (rows : List Row) (pool : Po
           let last = came_to worker below tenant table at in
           let q : PassView = last.0 in
           let number : q.number ≡ worker = last.2.number in
-          let has : HasCallsOf q book = tells.each worker (get_or done worker no_place).desk q (desk_there worker below) last.1 in
+          let has : HasCallsOf q book = tells.each worker (get_or done worker no_seat).desk q (desk_there worker below) last.1 in
           let same : own worker (calls_in book) ≡ own worker (past q) = subst (λ (w : ℕ). own w (calls_in book) ≡ own w (past q)) number has.calls in
           let mine : rows_in (jobs_of done worker) ≡ of_worker worker rows = still_dealt worker (omega (arith, below, count_places, size)) in
           same ∙ last.2.calls ∙ ap (λ (rs : List Row). calls_from 0 (rows_of worker tenant rs)) mine ∙ ap (calls_from 0) (rows_own worker tenant rows)
 
       no_rows : (worker : ℕ) → workers ≤ worker → own worker (calls_in book) ≡ calls_from 0 (rows_of worker tenant rows)
       no_rows worker above =
-          let none : own worker (calls_in book) ≡ [] = tells.no_other worker (omega (arith, above, count_places, size, length-map done (λ (p : Place). p.desk))) in
+          let none : own worker (calls_in book) ≡ [] = tells.no_other worker (omega (arith, above, count_places, size, length-map done (λ (p : Seat). p.desk))) in
           let empty : of_worker worker rows ≡ [] = none_from workers rows (workers_there workers (length caps) rows sound.sound) worker above in
           none ∙ sym (ap (calls_from 0) (sym (rows_own worker tenant rows) ∙ ap (rows_of worker tenant) empty))
 
@@ -303,10 +301,10 @@ module _ (workers : ℕ) (caps openings : List ℕ) (rows : List Row) (pool : Po
           subst (λ (rs : List Row). Reached q rs row answer) taken (subst (λ (r : Row). Reached q (take n (rows_in jobs)) r answer) job_row (subst (λ (a : Moved). Reached q (take n (rows_in jobs)) job.row a) answer_is reached)) in
           in_book worker below q last.1 last.2.start k row answer reached_so
         where
-          in_book : (worker : ℕ) → worker < workers → (q : PassView) → slice_get (get_or done worker no_place).desk.passes tenant ≡ Some q → q.seen.start ≡ table.start → (k : ℕ) (row : Row) (answer : Moved)
+          in_book : (worker : ℕ) → worker < workers → (q : PassView) → slice_get (get_or done worker no_seat).desk.passes tenant ≡ Some q → q.seen.start ≡ table.start → (k : ℕ) (row : Row) (answer : Moved)
               → Reached q (of_worker row.worker (take k rows)) row answer → IsAnswered (take k rows) row answer book
           in_book worker below q found start k row answer reached =
-              let whole : IsPrefix q.seen.log book.log = seen_in_book pool (desks_in done) still_together tenant table at worker (get_or done worker no_place).desk q (desk_there worker below) found book joins in
+              let whole : IsPrefix q.seen.log book.log = seen_in_book pool (desks_in done) still_together tenant table at worker (get_or done worker no_seat).desk q (desk_there worker below) found book joins in
               let seen = prefix_on reached.after.seen.log q.seen.log book.log reached.seen whole in
               let begins : reached.after.seen.start ≡ book.start = reached.start ∙ start ∙ sym tells.start in
               let call : Call = next_call reached.pass (kind_of row.op) row.amount in

@@ -2,7 +2,7 @@ use Rattle.std.proofs.Common.{◌≡◌, ◌+◌, ◌<◌, [], ℕ, List, length
 use Rattle.std.proofs.lemmas.List.{get_or_default}
 use Rattle.trace_text.specs.declared.traces.Row.{Row}
 use Rattle.replay_run.specs.Ready.{ArePlanned}
-use Rattle.replay_run.proofs.Rows.{no_row}
+use Rattle.replay_run.specs.Work.{no_row}
 use Rattle.replay_run.proofs.Planned.{planned_none, planned_more, sum_fits}
 use Rattle.replay_run.proofs.planning.plan_rows.Goals as goal
 

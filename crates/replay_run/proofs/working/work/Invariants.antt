@@ -1,10 +1,11 @@
-use Rattle.std.proofs.Common.{◌≡◌, take, drop}
-use Rattle.replay_run.specs.Work.{rows_in, MayRun, Ran}
+use Rattle.std.proofs.Common.{◌≤◌, take, drop}
+use Rattle.std.specs.Vec.{vec_capacity}
+use Rattle.replay_run.specs.Work.{rows_at, MayRun, HasMade}
 use Rattle.replay_run.proofs.working.work.Given as goal
 
-abbrev pub invariant-loop-job : goal.invariant-loop-job
-invariant-loop-job g l = record {
-  ran : Ran l.pool l.fn.desk (take l.job-index l.jobs) l.desk;
-  rows : rows_in l.jobs ≡ rows_in l.fn.jobs;
-  may : MayRun l.pool l.desk (rows_in (drop l.job-index l.jobs));
+abbrev pub invariant-loop-number : goal.invariant-loop-number
+invariant-loop-number g l = record {
+  made : HasMade l.pool l.fn.desk (take l.number-index (rows_at l.rows l.numbers)) l.fn.answers.items l.answers.items l.desk;
+  may : MayRun l.pool l.desk (drop l.number-index (rows_at l.rows l.numbers));
+  room : vec_capacity l.fn.answers ≤ vec_capacity l.answers;
 }
