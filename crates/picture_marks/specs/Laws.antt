@@ -20,20 +20,28 @@ ColumnsAreFew = (most : ℕ) (marks : List Mark) → 1 ≤ most → length (colu
 
 -- columns of fewer marks each would be too many
 abbrev pub RunsAreShort : Type 0
-RunsAreShort = (most count size : ℕ) → 1 ≤ size → div_ceil count size ≤ most → run_length most count ≤ size
+RunsAreShort = (most count size : ℕ) → 1 ≤ most → 1 ≤ size → div_ceil count size ≤ most → run_length most count ≤ size
+
+-- what a mark met and left stands between two numbers
+abbrev pub IsWithin : ℕ → ℕ → Mark → Type 0
+IsWithin least most mark = (least ≤ mark.before) × (least ≤ mark.after) × (mark.before ≤ most) × (mark.after ≤ most)
+
+-- the mark met or left the number
+abbrev pub Has : ℕ → Mark → Type 0
+Has number mark = (mark.before ≡ number) ⊎ (mark.after ≡ number)
 
 -- no number of a mark is below the least one or above the greatest one
 abbrev pub BoundsHold : Type 0
-BoundsHold = (marks : List Mark) → All (λ mark. (least_of marks ≤ mark.before) × (least_of marks ≤ mark.after) × (mark.before ≤ greatest_of marks) × (mark.after ≤ greatest_of marks)) marks
+BoundsHold = (marks : List Mark) → All (IsWithin (least_of marks) (greatest_of marks)) marks
 
 -- and both are numbers of marks
 abbrev pub BoundsAreMet : Type 0
-BoundsAreMet = (marks : List Mark) → marks ≢ []
-    → Any (λ mark. (mark.before ≡ least_of marks) ⊎ (mark.after ≡ least_of marks)) marks × Any (λ mark. (mark.before ≡ greatest_of marks) ⊎ (mark.after ≡ greatest_of marks)) marks
+BoundsAreMet = (marks : List Mark) → marks ≢ [] → Any (Has (least_of marks)) marks × Any (Has (greatest_of marks)) marks
 
 -- the bounds of each column stand below the top, and the least one below the greatest one
 abbrev pub ColumnsFit : Type 0
-ColumnsFit = (most : ℕ) (heading : Heading) (marks : List Mark) → All (λ column. (least_of column ≤ greatest_of column) × (greatest_of column ≤ top heading marks)) (columns_of most marks)
+ColumnsFit = (most : ℕ) (heading : Heading) (marks : List Mark)
+    → All (λ column. (least_of column ≤ greatest_of column) × (greatest_of column ≤ top heading marks)) (columns_of most marks)
 
 -- each mark of a column is a worker's
 abbrev pub SharesAddUp : Type 0

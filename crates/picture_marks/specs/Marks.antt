@@ -4,7 +4,7 @@
 --     shares_of workers column      how many of a column's marks each worker has
 --     scale size top value      how far up a value stands where the top stands at the size
 --     top heading marks      the top of the scale
-use Rattle.std.specs.Prelude.{ℕ, ◌+◌, ◌*◌, ◌/◌, ◌==◌, min, max, List, [], ◌∷◌, length, map, count_by}
+use Rattle.std.specs.Prelude.{ℕ, ◌*◌, ◌/◌, ◌==◌, min, max, List, [], ◌∷◌, length, map, count_by}
 use Rattle.std.specs.Fork.{slice_chunk}
 use Rattle.std.specs.Int.{div_ceil}
 use Rattle.std.specs.List.{range_with_len}

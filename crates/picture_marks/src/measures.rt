@@ -10,25 +10,22 @@ use std::alloc::{AllocError, Global};
 pub fn least(column: &[Mark]) -> u64
     ensures { result ≡ least_of column.now }
 {
-    let [first, rest @ ..] = column else {
-        return 0;
-    };
-    let mut least = first.before.min(first.after);
-    for mark in rest {
-        least = least.min(mark.before.min(mark.after));
-    }
-    least
+    column
+        .iter()
+        .map(|mark| mark.before.min(mark.after))
+        .min()
+        .unwrap_or(0)
 }
 
 /// The greatest number that the marks met or left, or 0 where there are none.
 pub fn greatest(column: &[Mark]) -> u64
     ensures { result ≡ greatest_of column.now }
 {
-    let mut greatest = 0;
-    for mark in column {
-        greatest = mark.before.max(mark.after).max(greatest);
-    }
-    greatest
+    column
+        .iter()
+        .map(|mark| mark.before.max(mark.after))
+        .max()
+        .unwrap_or(0)
 }
 
 /// How many of the marks each worker has. Marks of a worker that isn't below `workers` are in no
