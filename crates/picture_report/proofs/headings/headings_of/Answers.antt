@@ -8,7 +8,7 @@ use Rattle.replay_report.specs.Report.{added_to, taken_from, values_from}
 use Rattle.replay_report.proofs.Segments.{rest-all}
 use Rattle.replay_report.specs.declared.sums.Sums.{Sums}
 use Rattle.picture_report.specs.Told.{heading_at, opening_at}
-use Rattle.picture_report.proofs.Headed.{headed, headed-same}
+use Rattle.picture_report.proofs.Headed.{headed-same}
 use Rattle.picture_report.proofs.headings.headings_of.Goals as goal
 
 abbrev no_tenant : Tenant
