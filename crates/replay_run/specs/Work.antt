@@ -146,10 +146,14 @@ jobs_of seats worker = (slice_index_or seats worker (record { desk = record { wo
 abbrev pub AreDealt : List Row → List Seat → Type 0
 AreDealt rows seats = (worker : ℕ) → worker < length seats → rows_in (jobs_of seats worker) ≡ of_worker worker rows
 
+-- a worker has an answer for each of its rows
+abbrev pub HasAll : Jobs → Type 0
+HasAll jobs = length jobs.numbers.items ≤ length jobs.answers.items
+
 -- Each place has its worker's rows, and all their answers
 pub record HaveAnswers (rows : List Row) (places : List Place) : Type 0 where
   pub dealt : AreDealt rows (seats rows places)
-  pub full : (worker : ℕ) (d : Place) → worker < length places → length (slice_index_or places worker d).jobs.numbers.items ≤ length (slice_index_or places worker d).jobs.answers.items
+  pub full : (worker : ℕ) (d : Place) → worker < length places → HasAll (slice_index_or places worker d).jobs
 
 -- the job of this number, and one without an answer where there is none
 abbrev pub job_at : List Job → ℕ → Job
