@@ -48,4 +48,4 @@ below-end f n i text whole past known =
 
 -- a text after three more pieces
 pub three-more : (old first second last a b d : List ℕ) → first ≡ old ++ a → second ≡ first ++ b → last ≡ second ++ d → last ≡ old ++ (a ++ (b ++ d))
-three-more old first second last a b d one two three = three ∙ rw (two, one, append_assoc, append_assoc) refl
+three-more old first second last a b d one two three = three ∙ rw (two, one) (simp append_assoc)

@@ -1,19 +1,19 @@
 -- A picture is well-formed XML: one law for each of its parts.
 use Rattle.std.proofs.Common.{◌≡◌, ℕ, ◌-◌, ◌%◌, ◌==◌, if◌then◌else◌, true, false, List, [], ◌∷◌, ◌++◌, codes, refl, length}
-use Rattle.std.specs.List.{enumerate_from, list_any, range_with_len}
+use Rattle.std.specs.List.{enumerate_from, list_all, list_any, range_with_len}
 use Rattle.std.specs.Fmt.{decimal}
 use Rattle.std.specs.Str.{bytes_eq}
 use Rattle.std.proofs.lemmas.List.Folds.{list_all-append}
 use Rattle.picture_marks.specs.Marks.{columns_of, top}
 use Rattle.picture_marks.specs.declared.marks.Heading.{Heading}
 use Rattle.picture_marks.specs.declared.marks.Mark.{Mark}
-use Rattle.picture_xml.specs.Xml.{IsAttributes, IsContent, IsElement, attribute, is_name, is_text, is_value}
+use Rattle.picture_xml.specs.Xml.{IsAttributes, IsContent, IsElement, attribute, is_name, is_name_byte, is_text, is_value}
 use Rattle.picture_xml.specs.Xml.IsAttributes.{bare, further}
 use Rattle.picture_xml.specs.Xml.IsElement.{empty, filled}
 use Rattle.picture_xml.specs.Xml.IsContent.{nothing, and_text, and_element}
 use Rattle.picture_xml.proofs.Wells.{content-append, contents, decimal_is_text, decimal_is_value, name_is_text, text_alone}
 use Rattle.picture_svg.specs.declared.shapes.Area.{Area}
-use Rattle.picture_svg.specs.Svg.{area_attributes, axis, backdrop, column, columns_text, frame, head, hue, label, label_attributes, lines, part, part_height, parts, rect, rows_text, said, strip_end, summary, sums, svg, svg_attributes, track, tracks, view}
+use Rattle.picture_svg.specs.Svg.{area_attributes, axis, backdrop, column, columns_text, first_at, frame, head, hue, label, label_attributes, last_at, lines, part, part_height, parts, records, rect, rows_text, said, strip_end, summary, sums, svg, svg_attributes, track, tracks, view}
 
 numbered : {names : List (List ℕ)} {others : List ℕ} (name : List ℕ) (n : ℕ) → IsAttributes names others → is_name name ≡ true → list_any (bytes_eq name) names ≡ false
     → IsAttributes (name ∷ names) (others ++ attribute name (decimal n))
@@ -55,9 +55,18 @@ sums_are_text : (heading : Heading) → is_text (sums heading) ≡ true
 unfolding sums
 sums_are_text heading = simp (list_all-append, decimal_is_text)
 
+records_are_text : (marks : List Mark) → is_text (records marks) ≡ true
+unfolding records
+records_are_text marks =
+    let one = codes "record " ++ decimal (first_at marks) in
+    let more = codes "records " ++ decimal (first_at marks) ++ codes " to " ++ decimal (last_at marks) ++ codes ", " ++ rows_text (length marks) in
+    let one_is : is_text (codes "record " ++ decimal (first_at marks)) ≡ true = decimal_is_text (first_at marks) in
+    let more_is : is_text (codes "records " ++ decimal (first_at marks) ++ codes " to " ++ decimal (last_at marks) ++ codes ", " ++ rows_text (length marks)) ≡ true = simp (list_all-append, decimal_is_text, rows_are_text) in
+    elim (length marks == 1) as (λ alone. is_text (if alone then one else more) ≡ true) [ true ↦ one_is | false ↦ more_is ]
+
 said_is_text : (marks : List Mark) → is_text (said marks) ≡ true
 unfolding said
-said_is_text marks = simp (list_all-append, decimal_is_text, rows_are_text)
+said_is_text marks = simp (list_all-append, decimal_is_text, records_are_text)
 
 head_is_well : (name : List ℕ) (count : ℕ) (heading : Heading) → is_text name ≡ true → IsContent (head name count heading)
 unfolding head

@@ -2,7 +2,7 @@
 ghost use Rattle.std.specs.Prelude.{◌≡◌, ◌<◌, ◌≤◌, ◌+◌, ◌^◌, ◌++◌, OnOk, length, map};
 ghost use Rattle.std.specs.List.{All, enumerate_from, flat_map};
 ghost use Rattle.picture_marks.specs.Marks.{greatest_of, least_of};
-ghost use Rattle.picture_svg.specs.Svg.{column, column_start, column_width, columns_text, first_at, last_at, part, part_height, parts, said, span};
+ghost use Rattle.picture_svg.specs.Svg.{column, column_start, column_width, columns_text, first_at, last_at, part, part_height, parts, records, said, span};
 
 use crate::frame::{BASE, LEFT, RISE, ROOM, STRIP, strip_end};
 use crate::heading::push_rows;
@@ -49,17 +49,29 @@ fn last_at(marks: &[Mark]) -> u64
     }
 }
 
-// Appends what is said of a column.
-#[tactic(auto, unfolding(crate::specs::Svg::said))]
-fn push_said(text: &mut Vec<u8>, marks: &[Mark]) -> Result<(), AllocError>
-    ensures { OnOk result (text.new.items ≡ text.old.items ++ said marks.now) }
+// Appends which records the marks are, and how many.
+#[tactic(auto, unfolding(crate::specs::Svg::records))]
+fn push_records(text: &mut Vec<u8>, marks: &[Mark]) -> Result<(), AllocError>
+    ensures { OnOk result (text.new.items ≡ text.old.items ++ records marks.now) }
 {
+    if marks.len() == 1 {
+        text.extend_from_slice(b"record ")?;
+        return push_number(text, first_at(marks));
+    }
     text.extend_from_slice(b"records ")?;
     push_number(text, first_at(marks))?;
     text.extend_from_slice(b" to ")?;
     push_number(text, last_at(marks))?;
     text.extend_from_slice(b", ")?;
-    push_rows(text, marks.len() as u64)?;
+    push_rows(text, marks.len() as u64)
+}
+
+// Appends what is said of a column.
+#[tactic(auto, unfolding(crate::specs::Svg::said))]
+fn push_said(text: &mut Vec<u8>, marks: &[Mark]) -> Result<(), AllocError>
+    ensures { OnOk result (text.new.items ≡ text.old.items ++ said marks.now) }
+{
+    push_records(text, marks)?;
     text.extend_from_slice(b": least ")?;
     push_number(text, least(marks))?;
     text.extend_from_slice(b", most ")?;

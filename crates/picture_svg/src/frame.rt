@@ -74,7 +74,13 @@ pub fn push_frame(text: &mut Vec<u8>, peak: u64) -> Result<(), AllocError>
     push_close_tag(text, b"text")?;
     push_axis(text, BASE)?;
     push_label(text, b"end", LEFT - 12, BASE + 8, b"0")?;
-    push_label(text, b"caption", LEFT + 400, BASE + 32, b"in the order of the trace")
+    push_label(
+        text,
+        b"caption",
+        LEFT + 400,
+        BASE + 32,
+        b"in the order of the trace",
+    )
 }
 
 // Appends the name of a worker's strip, and what stands behind it.

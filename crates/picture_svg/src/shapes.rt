@@ -37,12 +37,7 @@ pub fn push_rect(text: &mut Vec<u8>, class: &[u8], area: Area) -> Result<(), All
 }
 
 #[tactic(auto, unfolding(crate::specs::Svg::label_attributes))]
-fn push_label_attributes(
-    text: &mut Vec<u8>,
-    class: &[u8],
-    x: u64,
-    y: u64,
-) -> Result<(), AllocError>
+fn push_label_attributes(text: &mut Vec<u8>, class: &[u8], x: u64, y: u64) -> Result<(), AllocError>
     ensures { OnOk result (text.new.items ≡ text.old.items ++ label_attributes class.now x y) }
 {
     push_attribute(text, b"class", class)?;
@@ -52,12 +47,7 @@ fn push_label_attributes(
 
 /// Appends the tag that opens a label.
 #[tactic(auto, unfolding(picture_xml::specs::Xml::open_tag))]
-pub fn push_label_tag(
-    text: &mut Vec<u8>,
-    class: &[u8],
-    x: u64,
-    y: u64,
-) -> Result<(), AllocError>
+pub fn push_label_tag(text: &mut Vec<u8>, class: &[u8], x: u64, y: u64) -> Result<(), AllocError>
     ensures { OnOk result (text.new.items ≡ text.old.items ++ open_tag (codes "text") (label_attributes class.now x y)) }
 {
     text.extend_from_slice(b"<text")?;
