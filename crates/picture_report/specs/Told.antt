@@ -1,12 +1,13 @@
 -- What a report tells of each tenant of its trace.
 --     marks_at tenant lines      the tenant's rows, each with what it met and left
 --     heading_at trace answers finals tenant      the numbers of the tenant's last line
-use Rattle.std.specs.Prelude.{ℕ, ◌+◌, ◌-◌, ◌^◌, ◌<◌, ◌==◌, List, [], length, map, slice_index, slice_index_or}
-use Rattle.std.specs.List.{filter, range_with_len}
+--     HeadingsAreTold      these numbers are those that the report ends with
+use Rattle.std.specs.Prelude.{◌≡◌, ℕ, ◌+◌, ◌-◌, ◌^◌, ◌<◌, ◌==◌, List, [], ◌++◌, length, map, codes, decimal, slice_index, slice_index_or}
+use Rattle.std.specs.List.{filter, flat_map, range_with_len, zip}
 use Rattle.picture_marks.specs.declared.marks.Heading.{Heading}
 use Rattle.picture_marks.specs.declared.marks.Mark.{Mark}
 use Rattle.quota_pool.specs.declared.moved.Moved.{Moved}
-use Rattle.replay_report.specs.Report.{added_to, answered, taken_from, values_from}
+use Rattle.replay_report.specs.Report.{HasAnswers, added_to, answered, report_text, segments_text, taken_from, values_from}
 use Rattle.trace_text.specs.Trace.{Content}
 use Rattle.trace_text.specs.declared.traces.Op.{Op}
 use Rattle.trace_text.specs.declared.traces.Op.TheVariants.{Add, Take, Direct, Read}
@@ -54,3 +55,14 @@ heading_at trace answers finals tenant =
 -- the headings of all tenants
 abbrev pub all_headings : Content → List Moved → List ℕ → List Heading
 all_headings trace answers finals = map (heading_at trace answers finals) (range_with_len 0 (length trace.tenants))
+
+-- the line of a tenant with a heading
+abbrev pub heading_line : Tenant × Heading → List ℕ
+heading_line (tenant, heading) =
+    codes "total," ++ tenant.name ++ codes "," ++ decimal heading.opening ++ codes "," ++ decimal heading.added ++ codes "," ++ decimal heading.taken ++ codes "," ++ decimal heading.last ++ codes "\n"
+
+-- a report ends with the lines of the headings
+abbrev pub HeadingsAreTold : Type 0
+HeadingsAreTold = (trace : Content) (answers : List Moved) (finals : List ℕ) → HasAnswers trace answers finals
+    → report_text trace answers finals
+    ≡ segments_text trace.tenants finals 0 0 (answered trace answers) trace.cuts ++ flat_map heading_line (zip trace.tenants (all_headings trace answers finals))

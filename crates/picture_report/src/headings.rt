@@ -2,7 +2,7 @@
 ghost use Rattle.std.specs.Prelude.{◌≡◌, ◌<◌, IfOk, length};
 ghost use Rattle.trace_text.specs.Trace.{content};
 ghost use Rattle.replay_report.specs.Report.{HasAnswers};
-ghost use Rattle.picture_report.specs.Told.{all_headings, heading_at};
+ghost use Rattle.picture_report.specs.Told.{HeadingsAreTold, all_headings, heading_at};
 
 use crate::reading::Report;
 use picture_marks::Heading;
@@ -54,3 +54,8 @@ fn heading(opening: u64, sums: Sums, last: u64) -> Heading
         last,
     }
 }
+
+/// The headings of a report are the numbers of its last lines.
+pub fn headings_laws()
+    ensures { HeadingsAreTold }
+{}

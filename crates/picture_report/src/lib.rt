@@ -6,7 +6,7 @@ mod marking;
 mod naming;
 mod reading;
 
-pub use headings::{heading_of, headings_of};
+pub use headings::{heading_of, headings_laws, headings_of};
 pub use marking::{marks_by_tenant, marks_of};
 pub use naming::tenant_named;
 pub use picture_marks::{Heading, Mark};

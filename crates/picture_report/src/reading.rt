@@ -49,7 +49,8 @@ impl From<NoMemory> for ReportFault {
     }
 }
 
-/// Reads the report of a trace.
+/// Reads the report of a trace. The bytes are those of the report of the numbers that were read;
+/// that some run has these numbers isn't tested.
 pub fn read_report(alloc: Global, trace: &Trace, report: &[u8]) -> Result<Report, ReportFault>
     requires tenants { All (λ row. row.tenant < length trace.now.tenants.items) trace.now.rows.items }
     requires cuts { CutsRise 0 (length trace.now.rows.items) trace.now.cuts.items }

@@ -1,4 +1,4 @@
-use Rattle.std.proofs.Common.{◌≡◌, ◌<◌, ◌-◌, ◌*◌, [], length, get_or, ap, drop, take, refl, ◌∙◌, arith, rules}
+use Rattle.std.proofs.Common.{◌≡◌, ◌<◌, ◌-◌, ◌*◌, length, get_or, ap, drop, take, refl, ◌∙◌, arith, rules}
 use Rattle.std.proofs.lemmas.List.{get_or_default}
 use Rattle.std.proofs.lemmas.List.FromFn.{map-range_with_len_more}
 use Rattle.std.specs.List.{zip}
@@ -8,11 +8,8 @@ use Rattle.replay_report.specs.Report.{added_to, taken_from, values_from}
 use Rattle.replay_report.proofs.Segments.{rest-all}
 use Rattle.replay_report.specs.declared.sums.Sums.{Sums}
 use Rattle.picture_report.specs.Told.{heading_at, opening_at}
-use Rattle.picture_report.proofs.Headed.{headed-same}
+use Rattle.picture_report.proofs.Headed.{headed-same, no_tenant}
 use Rattle.picture_report.proofs.headings.headings_of.Goals as goal
-
-abbrev no_tenant : Tenant
-no_tenant = record { name = []; opening = 0; cap = 0 }
 
 pub loop-i-preserved : goal.loop-i-preserved
 loop-i-preserved c =
