@@ -1,0 +1,4 @@
+pub mod Asked
+pub mod Ended
+pub mod Streams
+pub mod Telling
