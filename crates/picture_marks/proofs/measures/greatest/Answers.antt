@@ -1,0 +1,15 @@
+use Rattle.std.proofs.Common.{sym, ap, ◌∙◌, rules, tests}
+use Rattle.std.proofs.lemmas.Iterator.{YieldsList-from_map, YieldsList-from_slice}
+use Rattle.std.proofs.lemmas.Iterator.Adapters.{option_map_id}
+use Rattle.std.proofs.lemmas.Iterator.Consumers.{max_from_yields_List}
+use Rattle.std.specs.Prelude.{unwrap_or}
+use Rattle.picture_marks.specs.Marks.{high}
+use Rattle.picture_marks.proofs.Bounds.{greatest_is}
+use Rattle.picture_marks.proofs.measures.greatest.Goals as goal
+
+pub returns : goal.returns
+returns c =
+    c.unwrap_or.ensures
+    ∙ ap (λ bound. unwrap_or bound 0)
+    (sym (option_map_id _) ∙ max_from_yields_List _ _ c.max.ensures.ran (YieldsList-from_map _ high (YieldsList-from_slice c.args.column.now cc) c.map.ensures.closure (λ x r q k. search (rules, tests))))
+    ∙ greatest_is c.args.column.now
