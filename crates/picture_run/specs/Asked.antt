@@ -1,7 +1,7 @@
 -- The picture that words ask for.
 --     asked words      `line TRACE WORKERS` asks for a line for each tenant, `svg TRACE WORKERS TENANT` for the drawing of one
 --     workers_of picture, InRange picture      its number of workers, which is from 1 to 64
-use Rattle.std.specs.Prelude.{ℕ, ◌≤◌, ◌&&◌, nat_le, if◌then◌else◌, List, [], ◌∷◌, codes, Option, Some, None, String, string_bytes}
+use Rattle.std.specs.Prelude.{ℕ, ◌≤◌, ◌&&◌, nat_le, if◌then◌else◌, List, [], ◌∷◌, codes, Option, None, String, string_bytes}
 use Rattle.std.specs.Option.{option_map}
 use Rattle.std.specs.Str.{bytes_eq}
 use Rattle.std.specs.declared.alloc.Global.{Global}

@@ -2,7 +2,7 @@ use Rattle.std.proofs.Common.{rules, ◌≡◌}
 use Rattle.trace_text.specs.Records.{records_of}
 use Rattle.trace_text.specs.declared.traces.TraceFault.TheVariants.{NoMemory}
 use Rattle.picture_run.proofs.Faults.{first-fault}
-use Rattle.picture_run.proofs.traces.trace_in.Goals as goal
+use Rattle.picture_run.proofs.inputs.trace_in.Goals as goal
 
 pub returns-in-Err : goal.returns-in-Err
 returns-in-Err c =
