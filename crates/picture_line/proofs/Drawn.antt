@@ -1,11 +1,10 @@
 -- The bars of columns.
-use Rattle.std.proofs.Common.{◌≡◌, ℕ, suc, ◌-◌, ◌*◌, ◌<◌, ◌≤◌, List, [], ◌∷◌, ◌++◌, length, get_or, map, take, refl, sym, ap, ◌∙◌, subst, arith, Bor}
+use Rattle.std.proofs.Common.{◌≡◌, ℕ, suc, ◌-◌, ◌<◌, ◌≤◌, List, [], ◌∷◌, ◌++◌, length, get_or, map, take, refl, sym, ap, ◌∙◌, subst, arith, Bor}
 use Rattle.std.proofs.lemmas.List.{get_or-map, length-map, take_all}
-use Rattle.std.proofs.Math.Nat.{div-le_of_le-mul}
 use Rattle.std.specs.Fork.{slice_chunk}
 use Rattle.std.specs.List.{flat_map}
 use Rattle.picture_line.specs.Line.{column_bar, left_by}
-use Rattle.picture_marks.specs.Marks.{columns_of, greatest_of, run_length, scale, top}
+use Rattle.picture_marks.specs.Marks.{columns_of, greatest_of, run_length, top}
 use Rattle.picture_marks.specs.declared.marks.Heading.{Heading}
 use Rattle.picture_marks.specs.declared.marks.Mark.{Mark}
 use Rattle.picture_marks.proofs.Bounds.{greatest_of-chunk}
@@ -44,10 +43,6 @@ left-within most heading marks items held i d left highest same cut inside is ro
     let now = λ (column : Bor (List Mark)). column.now in
     let below = column-below most heading marks items i d (ap (map now) same ∙ cut) inside in
     omega arith
-
--- its bar is one of the eight
-pub bar-fits : (highest left : ℕ) → left ≤ highest → scale 7 highest left ≤ 7
-bar-fits highest left within = div-le_of_le-mul highest {m = left * 7} {n = 7} (omega arith)
 
 -- a text of each column is one of each item that holds a column
 flat_map-now : (f : List Mark → List ℕ) (items : List (Bor (List Mark))) → flat_map (λ column. f column.now) items ≡ flat_map f (map (λ column. column.now) items)

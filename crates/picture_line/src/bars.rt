@@ -1,5 +1,5 @@
 //! The bars of a line.
-ghost use Rattle.std.specs.Prelude.{◌≡◌, ◌+◌, ◌<◌, ◌≤◌, ◌++◌, OnOk, codes};
+ghost use Rattle.std.specs.Prelude.{◌≡◌, ◌≤◌, ◌++◌, OnOk};
 ghost use Rattle.std.specs.List.{flat_map};
 ghost use Rattle.picture_line.specs.Line.{bar, bars, column_bar, left_by};
 ghost use Rattle.picture_marks.specs.Marks.{columns_of, top};

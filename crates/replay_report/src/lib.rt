@@ -7,4 +7,5 @@ mod sums;
 
 pub use quota_pool::Moved;
 pub use report::{report_text, summary_text};
+pub use sums::{Sums, sums_of};
 pub use trace_text::{NoMemory, Trace};

@@ -1,7 +1,8 @@
 use Rattle.std.proofs.Common.{◌++◌, ap, ◌∙◌, arith}
 use Rattle.picture_line.specs.declared.bars.TheConstants.{MOST_BARS}
 use Rattle.picture_marks.specs.Marks.{columns_of, top}
-use Rattle.picture_line.proofs.Drawn.{bar-fits, bars-drawn, left-within}
+use Rattle.picture_marks.proofs.Heights.{scale-fits}
+use Rattle.picture_line.proofs.Drawn.{bars-drawn, left-within}
 use Rattle.picture_line.proofs.bars.push_columns.Goals as goal
 
 pub scaled-requires-clause-within : goal.scaled-requires-clause-within
@@ -14,7 +15,7 @@ push_bar-requires c =
     let within =
     left-within MOST_BARS c.args.heading c.args.marks.now c.deref-column-items.result.now c.in_ok-columns.columns.items c.loop-column.column-index _ c.left_by.result c.top_of-top.result
     c.deref-column-items.ensures.value c.in_ok-columns.ensures c.loop-column-test.true c.left_by.ensures c.top_of-top.ensures in
-    let fits = bar-fits c.top_of-top.result c.left_by.result within in
+    let fits = scale-fits 7 c.top_of-top.result c.left_by.result within in
     omega (arith, c.scaled.ensures, fits)
 
 pub returns : goal.returns
