@@ -34,7 +34,14 @@ pub fn picture_text(
             Err(_) => Err(Ending::NoMemory),
         },
         Picture::Drawing { workers, tenant } => match number_of(trace, &tenant.items) {
-            Some(number) => match drawing_text(alloc, *workers, &tenant.items, trace, report, number) {
+            Some(number) => match drawing_text(
+                alloc,
+                *workers,
+                &tenant.items,
+                trace,
+                report,
+                number,
+            ) {
                 Ok(text) => Ok(text),
                 Err(_) => Err(Ending::NoMemory),
             },
