@@ -6,9 +6,9 @@ mod words;
 
 use edge_io::{StdSink, StdSource};
 use files::FileSource;
-use picture_run::{run, tell};
+use picture_run::{run, tell, trace_path};
 use std::process::ExitCode;
-use words::{gather_words, trace_path};
+use words::gather_words;
 
 fn main(rt: HostRuntime) -> ExitCode {
     let mut err = StdSink::err(rt);

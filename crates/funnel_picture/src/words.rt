@@ -29,11 +29,3 @@ fn ending_without_words(kind: ErrorKind) -> Ending
         _ => Ending::Words,
     }
 }
-
-/// The path of the trace, which is the second word.
-pub fn trace_path(words: &[String]) -> &str {
-    match words {
-        [_, path, ..] => path,
-        _ => "",
-    }
-}

@@ -1,5 +1,6 @@
 -- The picture that words ask for.
 --     asked words      `line TRACE WORKERS` asks for a line for each tenant, `svg TRACE WORKERS TENANT` for the drawing of one
+--     trace_path words      the path of the trace, which is the second word
 --     workers_of picture, InRange picture      its number of workers, which is from 1 to 64
 use Rattle.std.specs.Prelude.{ℕ, ◌≤◌, ◌&&◌, nat_le, if◌then◌else◌, List, [], ◌∷◌, codes, Option, None, String, string_bytes}
 use Rattle.std.specs.Option.{option_map}
@@ -26,6 +27,11 @@ unfoldable pub asked : List (String Global) → Option Picture
 asked (verb ∷ trace ∷ workers ∷ []) = lines_by (string_bytes verb) (string_bytes workers)
 asked (verb ∷ trace ∷ workers ∷ tenant ∷ []) = drawing_by (string_bytes verb) (string_bytes workers) (string_bytes tenant)
 asked _ = None
+
+-- the path of the trace, which is the second word
+abbrev pub trace_path : List (String Global) → List ℕ
+trace_path (verb ∷ path ∷ more) = string_bytes path
+trace_path _ = []
 
 -- the number of workers of a picture
 abbrev pub workers_of : Picture → ℕ

@@ -13,7 +13,7 @@ pub use ending::{Ending, ErrorLine, REPORT_LIMIT, Refusal, TRACE_LIMIT};
 pub use runs::run;
 pub use streams::tell;
 pub use trace_text::{Name, TraceFault};
-pub use words::{Picture, read_words};
+pub use words::{Picture, read_words, trace_path};
 
 #[cfg(test)]
 mod tests;

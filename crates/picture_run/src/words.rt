@@ -1,6 +1,6 @@
 //! The words behind the program's name.
 ghost use Rattle.std.specs.Prelude.{◌≡◌, ◌≤◌, IfOk, IfSome};
-ghost use Rattle.picture_run.specs.Asked.{InRange, asked, drawing_by, lines_by, workers_in, workers_of};
+ghost use Rattle.picture_run.specs.Asked.{InRange, asked, drawing_by, lines_by, trace_path, workers_in, workers_of};
 
 use std::alloc::{AllocError, Global};
 use text_lines::number;
@@ -28,7 +28,7 @@ impl Picture {
 }
 
 /// The picture that words ask for, if they do: `line TRACE WORKERS` or `svg TRACE WORKERS TENANT`.
-/// The path of the trace is any word here.
+/// The path of the trace may be any word here.
 #[tactic(auto, unfolding(crate::specs::Asked::asked))]
 pub fn read_words(alloc: Global, words: &[String]) -> Result<Option<Picture>, AllocError>
     ensures exact { IfOk result (λ picture. picture ≡ asked words.now) }
@@ -38,6 +38,16 @@ pub fn read_words(alloc: Global, words: &[String]) -> Result<Option<Picture>, Al
         [verb, _trace, workers] => Ok(lines_by(verb, workers)),
         [verb, _trace, workers, tenant] => drawing_by(alloc, verb, workers, tenant),
         _ => Ok(None),
+    }
+}
+
+/// The path of the trace that words speak of, which is empty where there is none.
+pub fn trace_path(words: &[String]) -> &str
+    ensures { result.now ≡ trace_path words.now }
+{
+    match words {
+        [_verb, path, ..] => path,
+        _ => "",
     }
 }
 
