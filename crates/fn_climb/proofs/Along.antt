@@ -4,7 +4,7 @@ use Rattle.std.specs.Prelude.{if◌then◌else◌}
 use Rattle.std.specs.List.{find, flat_map}
 use Rattle.std.proofs.lemmas.List.{append-nil}
 use Rattle.fn_rows.specs.Machine.{put}
-use Rattle.fn_rows.proofs.Put.{put_here, put_there}
+use Rattle.fn_rows.proofs.Public.{put_here, put_there}
 use Rattle.fn_core.specs.Begin.{up_to}
 
 pub flat_map-one : {A B : Type 0} (f : A → B) (xs : List A) → flat_map (λ x. f x ∷ []) xs ≡ map f xs

@@ -21,8 +21,7 @@ use Rattle.fn_core.specs.Order.{own_row}
 use Rattle.fn_core.specs.declared.Position.{Position}
 use Rattle.fn_core.specs.Filling.{FillsAt, fills_later}
 use Rattle.fn_core.specs.Calls.{state_in}
-use Rattle.fn_core.proofs.Linked.{row_read-link}
-use Rattle.fn_core.proofs.Tells.{last_mine}
+use Rattle.fn_core.proofs.Public.{row_read-link, last_mine}
 use Rattle.fn_table.specs.Seen.{PassView, May, Stepped, own_of}
 use Rattle.fn_climb.specs.declared.course.Course.{Course}
 use Rattle.fn_climb.specs.Course.{held_at, at_stage, Holds, Moved, pending_of}

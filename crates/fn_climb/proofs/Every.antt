@@ -6,7 +6,7 @@ use Rattle.std.proofs.lemmas.Bool.{cases_eq}
 use Rattle.std.proofs.lemmas.List.{get_or-set_same, get_or-set_other, length-set}
 use Rattle.fn_model.specs.declared.Kind.{Kind}
 use Rattle.fn_rows.specs.Machine.{Lets, put}
-use Rattle.fn_rows.proofs.Put.{put_here, put_there}
+use Rattle.fn_rows.proofs.Public.{put_here, put_there}
 use Rattle.fn_layout.specs.declared.shape.Shape.{Shape}
 use Rattle.fn_layout.specs.Tree.{member}
 use Rattle.fn_core.specs.declared.Start.{Start}
@@ -14,7 +14,7 @@ use Rattle.fn_core.specs.declared.answer.Blocked.{Blocked}
 use Rattle.fn_core.specs.Words.{Own}
 use Rattle.fn_core.specs.Calls.{IsLegal}
 use Rattle.fn_core.specs.Begin.{Finds, blocker_by, is_open_by, has_open_by}
-use Rattle.fn_core.proofs.Tries.{range_step, range_end, any_found}
+use Rattle.fn_core.proofs.Public.{range_step, range_end, any_found}
 use Rattle.fn_table.specs.Seen.{PassView, own_of}
 use Rattle.fn_climb.specs.Begin.{Taken, Takes, level_takings, blocked_load, IsStill, IsOpen, IsLastLoad, first_open_by, LevelTold, LevelTried, RowsTried}
 use Rattle.fn_climb.proofs.Scans.{takes_on, still_on, still_none}

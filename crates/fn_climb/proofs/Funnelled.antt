@@ -9,7 +9,7 @@ use Rattle.fn_core.specs.declared.answer.CoreStep.TheVariants.{Ready}
 use Rattle.fn_core.specs.Laws.{HasReply}
 use Rattle.fn_core.specs.Calls.{CoreLog, state_in, calls_in, IsLegal, IsIdle, HasCall, left_of}
 use Rattle.fn_core.specs.Entries.{IsBatched}
-use Rattle.fn_core.proofs.Entered.{funnelled_calls_are_batched}
+use Rattle.fn_core.proofs.Public.{funnelled_calls_are_batched}
 use Rattle.fn_table.specs.Seen.{PassView, own_of}
 use Rattle.fn_climb.specs.Begin.{HasBegun}
 use Rattle.fn_table.specs.Later.{IsLater}

@@ -21,7 +21,7 @@ use Rattle.fn_core.specs.Words.{Own}
 use Rattle.fn_core.specs.After.{in_stage, put_level, looked_stage}
 use Rattle.fn_core.specs.Positions.{is_out}
 use Rattle.fn_core.specs.Calls.{state_in, look_told, step_answer}
-use Rattle.fn_core.proofs.Places.{same_kind-refl}
+use Rattle.fn_core.proofs.Public.{same_kind-refl}
 use Rattle.fn_table.specs.Seen.{PassView, Stepped, own_of, with_log}
 use Rattle.fn_climb.specs.declared.course.Course.{Course}
 use Rattle.fn_climb.specs.Next.{next_step, IsNext}

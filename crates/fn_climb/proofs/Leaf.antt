@@ -18,7 +18,7 @@ use Rattle.fn_core.specs.Batches.{has_come}
 use Rattle.fn_core.specs.Positions.{Fits}
 use Rattle.fn_core.specs.Laws.{IsFreeFor}
 use Rattle.fn_core.specs.Calls.{IsLegal, IsIdle, state_in}
-use Rattle.fn_core.proofs.Laws.{holds}
+use Rattle.fn_core.proofs.Public.{positions_fit}
 use Rattle.fn_table.specs.Seen.{PassView, May, Stepped, own_of}
 use Rattle.fn_climb.specs.declared.course.Course.{Course}
 use Rattle.fn_climb.specs.Course.{Holds}
@@ -57,7 +57,7 @@ open_free p kind level n open_row less = (div-mul-add (member p.seen.start.shape
 
 -- where a pass rests it stands nowhere
 all_out : (p : PassView) → IsLegal p.seen → IsIdle p.seen p.number → (k : Kind) (l : ℕ) → (own_of p).stages k l ≡ Out
-all_out p legal idle = subst (Fits p.seen.start.shape.levels (own_of p).stages) idle ((holds p.seen.start p.seen.log legal.0 legal.1).0.fits p.number)
+all_out p legal idle = subst (Fits p.seen.start.shape.levels (own_of p).stages) idle (positions_fit p.seen.start p.seen.log legal.0 legal.1 p.number)
 
 -- the stages of a call that waits at its leaf
 leaf_stages : (n l : ℕ) → 1 ≤ l → (l ≡ 1 → get_or (Waiting n ∷ Out ∷ Out ∷ []) (l - 1) Out ≡ Waiting n) × (l ≢ 1 → get_or (Waiting n ∷ Out ∷ Out ∷ []) (l - 1) Out ≡ Out)

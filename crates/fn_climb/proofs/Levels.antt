@@ -8,9 +8,9 @@ use Rattle.fn_core.specs.declared.Start.{Start}
 use Rattle.fn_core.specs.declared.answer.Blocked.{Blocked}
 use Rattle.fn_core.specs.Calls.{IsLegal}
 use Rattle.fn_core.specs.Begin.{blocker_by, scanned_by}
-use Rattle.fn_core.proofs.Tries.{range_step, range_end, any_found}
+use Rattle.fn_core.proofs.Public.{range_step, range_end, any_found}
 use Rattle.fn_rows.specs.Machine.{put}
-use Rattle.fn_rows.proofs.Put.{put_here}
+use Rattle.fn_rows.proofs.Public.{put_here}
 use Rattle.fn_table.specs.Seen.{PassView, own_of}
 use Rattle.fn_climb.specs.Begin.{Taken, Takes, scan_taken, blocked_load, IsStill, IsOpen, RowTried, LevelTried}
 use Rattle.fn_climb.proofs.Scans.{takes_on, still_on, still_none}

@@ -8,7 +8,7 @@ use Rattle.fn_layout.specs.Words.{IsAggregator, slot_number, row_number}
 use Rattle.fn_layout.proofs.Members.{numbers_are_members}
 use Rattle.fn_layout.proofs.Read.{ReadsSlot, reads_slot}
 use Rattle.fn_core.specs.Words.{link, row_there, NamesMine}
-use Rattle.fn_core.proofs.Members.{members_few}
+use Rattle.fn_core.proofs.Public.{members_few}
 use Rattle.fn_climb.specs.Course.{IsLink}
 
 -- the row of a member is one of few

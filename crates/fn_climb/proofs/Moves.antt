@@ -8,8 +8,6 @@ use Rattle.fn_rows.specs.declared.Stage.{Stage}
 use Rattle.fn_rows.specs.declared.Stage.TheVariants.{Saw, Told, Waiting, Lead, Late, Shut, Based, Headed, FilledLo, FilledBase, Filled, Pointed, At, Over, Hit, Got}
 use Rattle.fn_rows.specs.Machine.{filled, peeked}
 use Rattle.fn_rows.specs.Law.{row_in_hand}
-use Rattle.fn_rows.specs.Trace.{Traced}
-use Rattle.fn_rows.proofs.Invariant.{Inv, Leading, IsOurs}
 use Rattle.fn_layout.specs.declared.shape.Shape.{Shape}
 use Rattle.fn_layout.specs.Tree.{IsLevel, aggregator, member, members}
 use Rattle.fn_layout.specs.Words.{IsSlot, IsAggregator, slot_number, row_number}
@@ -30,10 +28,7 @@ use Rattle.fn_core.specs.Batches.{has_come}
 use Rattle.fn_core.specs.Calls.{state_in, told_by}
 use Rattle.std.proofs.lemmas.Nat.{mod-mul-add}
 use Rattle.fn_core.specs.Laws.{IsFreeFor}
-use Rattle.fn_core.proofs.Laws.{holds}
-use Rattle.fn_core.proofs.Names.{hand_owned, there_named}
-use Rattle.fn_core.proofs.Places.{kind_cases}
-use Rattle.fn_core.proofs.Tells.{peek_word, last_mine, over_mine}
+use Rattle.fn_core.proofs.Public.{found_last_is_mine, hand_owned, rows_have_names, kind_cases, peek_word, last_mine, over_mine}
 use Rattle.fn_table.specs.Seen.{PassView, May, Stepped, own_of}
 use Rattle.fn_climb.specs.declared.course.Course.{Course}
 use Rattle.fn_climb.specs.Next.{next_step, in_kept_row, IsNext}
@@ -156,12 +151,7 @@ module _ (p : PassView) (c : Course) (h : Holds p c) where
 
     -- what the call found in `last` names a member's row
     pub last_named : (at hi base last r : ℕ) → held_at c c.level ≡ FilledBase at hi base last r → NamesMine start.shape c.level index last
-    last_named at hi base last r is =
-        let t : Traced = place start s c.kind c.level p.number in
-        let m : ℕ = member start.shape c.level p.number in
-        let inv : Inv (members start.shape c.level index) start.shape.rows t = (holds start p.seen.log h.legal.0 h.legal.1).0.good.inv c.kind c.level index in
-        let leading : Leading t t.total (IsOurs start.shape.rows t m) (FilledBase at hi base last r) = subst (Leading t t.total (IsOurs start.shape.rows t m)) (stage_now p c h free (FilledBase at hi base last r) is) (inv.leading m) in
-        subst (NamesMine start.shape c.level index) (sym leading.1) (last_mine start p.seen.log h.legal.0 h.legal.1 p.number c.kind c.level)
+    last_named at hi base last r is = found_last_is_mine start p.seen.log h.legal.0 h.legal.1 p.number c.kind c.level at hi base last r (stage_now p c h free (FilledBase at hi base last r) is)
 
     pub pointed : (at hi base r : ℕ) → held_at c c.level ≡ Filled at hi base r → (n : ℕ) (q : PassView) → Stepped p (Point c.kind c.level (own_row start.shape p.number c.kind c.level r)) n q → Moved p c (Pointed at hi base r) q
     pointed at hi base r is n q t =
@@ -207,7 +197,7 @@ module _ (p : PassView) (c : Course) (h : Holds p c) where
         let l = legal_before p c h step n q t in
         let before : State = state_in (record { start = start; log = t.before }) in
         let there : stage start before c.kind c.level p.number ≡ Over at r = ap (λ (o : Own). o.stages c.kind c.level) (own_before p c h step n q t) ∙ stage_now p c h free (Over at r) is in
-        let named = there_named start.shape c.kind c.level p.number r (in_hand r (ap row_in_hand is)) in (
+        let named = rows_have_names start t.before l.0 l.1 p.number c.kind c.level r (ap row_in_hand there) in (
           c.kind,
           c.level,
           index,

@@ -26,17 +26,7 @@ use Rattle.fn_core.specs.Bound.{steps_left}
 use Rattle.fn_core.specs.Fields.{answer_of}
 use Rattle.fn_core.specs.Filling.{FillsAt}
 use Rattle.fn_core.specs.Calls.{CoreLog, state_in, IsLegal, HasCall, with_move, stage_for, told_by, step_answer, Follows, HasJoined}
-use Rattle.fn_core.proofs.Counted.{opened_counted}
-use Rattle.fn_core.proofs.Free.{free_rows_stay}
-use Rattle.fn_core.proofs.Grows.{replies_are_bounded, places_are_beyond}
-use Rattle.fn_core.proofs.Log.{opened_whole}
-use Rattle.fn_core.proofs.Owned.{opened_owned, log_owned}
-use Rattle.fn_core.proofs.Underway.{underway_kept}
-use Rattle.fn_core.proofs.Guards.{free_is}
-use Rattle.fn_core.proofs.Next.{next_is_own}
-use Rattle.fn_core.proofs.Filling.{Fills, legal_push, run_push, fills_before}
-use Rattle.fn_core.proofs.Measure.{others_cost_nothing, steps_run_out}
-use Rattle.fn_core.proofs.Follows.{legal_parts, run_parts, in_call, follows, few_left}
+use Rattle.fn_core.proofs.Public.{calls_stay_underway, rows_stay_for_filling, replies_are_bounded, places_are_beyond, free_is, next_is_own, legal_push, run_push, others_cost_nothing, steps_run_out, legal_parts, run_parts, in_call, follows, few_left}
 use Rattle.fn_table.specs.Funnel.{funnel}
 use Rattle.fn_table.specs.Seen.{PassView, Stepped, own_of, event, events_of, with_log}
 use Rattle.fn_table.proofs.Later.{later_by}
@@ -184,11 +174,10 @@ module _ (p : PassView) (c : Course) (h : Holds p c) (step : Move) (n : ℕ) (q 
     -- the first Fill in any free row leaves the call going too
     fills_any : (row : ℕ) → step ≡ Fill row Lo → Follows before (with_move before p.number step) p.number told.Going
     fills_any row is =
-        let all = log_owned start h.legal.0 t.before (opened start) (opened_whole start h.legal.0) (opened_counted start) (opened_owned start) legal_before.1 in
         let e : Event = event p.number step in
         let next : State = effect start (state_in before) e in
         let there : state_in (with_move before p.number step) ≡ next = run_push start t.before e (opened start) in
-        let underway = underway_kept start h.legal.0 (state_in before) all.0 all.1 all.2 p.number h.inside step allowed_before.1 (λ kind leaves. cc (is, leaves)) call_before in (
+        let underway = calls_stay_underway start t.before h.legal.0 legal_before.1 e allowed_before (λ kind leaves. cc (is, leaves)) call_before in (
           subst (λ (x : State). IsUnderway start x p.number) (sym there) underway,
           λ k rows. elim (steps_run_out start t.before h.legal.0 legal_before.1 e k allowed_before rows (in_call start t.before h.legal.0 legal_before.1 p.number h.inside call_before)) [
             | inl fewer ↦ subst (λ (x : State). steps_left start x p.number k < steps_left start (state_in before) p.number k) (sym there) fewer
@@ -245,15 +234,15 @@ module _ (p : PassView) (c : Course) (h : Holds p c) (step : Move) (n : ℕ) (q 
 
     -- how far the call has come then
     fills_there : (kind : Kind) (level : ℕ) → 1 ≤ level → level ≤ start.shape.levels → FillsAt (own_of q).stages (own_of q).caller.position kind level
-        → Fills (own_of p) kind level × ((r : ℕ) → IsFreeFor start (state_in p.seen) p.number kind level r → IsFreeFor start (state_in q.seen) p.number kind level r)
+        → FillsAt (own_of p).stages (own_of p).caller.position kind level × ((r : ℕ) → IsFreeFor start (state_in p.seen) p.number kind level r → IsFreeFor start (state_in q.seen) p.number kind level r)
     fills_there kind level low high fills =
         let own_now : own_of q ≡ own start (effect start (state_in before) (event p.number step)) p.number = (λ i. own (t.now i).seen.start (state_in (t.now i).seen) (t.now i).number) ∙ ap (λ (x : State). own start x p.number) (run_push start t.before (event p.number step) (opened start)) in
-        let after : Fills (own start (effect start (state_in before) (event p.number step)) p.number) kind level = subst (λ (o : Own). Fills o kind level) own_now fills in
+        let after = subst (λ (o : Own). FillsAt o.stages o.caller.position kind level) own_now fills in
         let none : Begins step kind → ⊥ = begins_not start (state_in before) p.number step kind c.kind c.level c.word (ap (λ (o : Own). o.caller.position) own_before ∙ h.course.position) allowed_before in
-        let was = fills_before start t.before h.legal.0 legal_before.1 (event p.number step) allowed_before p.number kind level low high after in (
-          subst (λ (o : Own). Fills o kind level) own_before (elim was.0 [ inl f ↦ f | inr b ↦ absurd (none b.1) ]),
+        let was = rows_stay_for_filling start t.before h.legal.0 legal_before.1 (event p.number step) allowed_before p.number kind level low high (λ same. none) after in (
+          subst (λ (o : Own). FillsAt o.stages o.caller.position kind level) own_before was.0,
           λ r free. subst (λ (x : State). IsFreeFor start x p.number kind level r) (sym state_after)
-              (free_rows_stay start t.before h.legal.0 legal_before.1 (event p.number step) allowed_before p.number kind level r (free_is_own start (state_in p.seen) (state_in before) p.number own_before kind level r free) was.1),
+              (was.1 r (free_is_own start (state_in p.seen) (state_in before) p.number own_before kind level r free)),
         )
 
     pub holds_then : (c' : Course) → c'.kind ≡ c.kind → c'.rows ≡ c.rows → IsCourseOf start (own_of q) c' → HasCall q.seen p.number → Holds q c'

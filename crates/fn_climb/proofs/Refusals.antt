@@ -11,10 +11,7 @@ use Rattle.fn_core.specs.declared.Move.TheVariants.{Scan}
 use Rattle.fn_core.specs.declared.answer.Blocked.{Blocked}
 use Rattle.fn_core.specs.Order.{lets}
 use Rattle.fn_core.specs.Begin.{Finds, up_to, others, blocks_by, blocker_by, scanned_by, is_open_by, rows_tried_by, has_open_by, row_scans_by, level_scans_by, is_full_by, full_level_by, scans_by, first_steps, begin_moves_by}
-use Rattle.fn_core.proofs.Among.{Has, EndsIn, IsFound, found_is, none_found, all_reached, has_range, from_range, has_map, has_flat_map, contains, range_ends, map_ends, flat_map_ends}
-use Rattle.fn_core.proofs.Beginning.{other_is}
-use Rattle.fn_core.proofs.Short.{begin_short}
-use Rattle.fn_core.proofs.Tries.{any_found, holds_lets, not_true}
+use Rattle.fn_core.proofs.Public.{Has, EndsIn, IsFound, found_is, none_found, all_reached, has_range, from_range, has_map, has_flat_map, contains, range_ends, map_ends, flat_map_ends, other_is, begin_short, any_found, holds_lets, not_true}
 use Rattle.fn_table.specs.Seen.{PassView, own_of}
 use Rattle.fn_core.specs.declared.Start.{Start}
 use Rattle.fn_model.specs.declared.Call.{Call}

@@ -6,7 +6,7 @@ use Rattle.std.proofs.lemmas.Bool.{cases_eq, eq-eqb, ne_eqb, eqb-true, false≢t
 use Rattle.running.proofs.Logs.{prefix_refl}
 use Rattle.fn_model.specs.declared.Kind.{Kind}
 use Rattle.fn_rows.specs.Machine.{put, Lets}
-use Rattle.fn_rows.proofs.Put.{put_here, put_there}
+use Rattle.fn_rows.proofs.Public.{put_here, put_there}
 use Rattle.fn_layout.specs.declared.shape.Shape.{Shape}
 use Rattle.fn_layout.specs.Tree.{IsLevel, aggregator, member, members, pass_of}
 use Rattle.fn_layout.proofs.Members as layout
@@ -23,7 +23,7 @@ use Rattle.fn_core.specs.Calls.{IsLegal, IsIdle, state_in}
 use Rattle.fn_core.specs.Machine.{IsChange, Allowed}
 use Rattle.fn_core.specs.declared.Position.TheVariants.{Resting}
 use Rattle.fn_core.specs.Begin.{up_to, is_other, others, blocks_by, blocker_by, scanned_by}
-use Rattle.fn_core.proofs.Tries.{range_end, filter_keeps, filter_skips}
+use Rattle.fn_core.proofs.Public.{range_end, filter_keeps, filter_skips}
 use Rattle.fn_table.specs.Seen.{TableView, PassView, IsOf, May, Stepped, own_of, event}
 use Rattle.fn_table.proofs.Spares.{level_case}
 use Rattle.fn_climb.specs.Begin.{Taken, Takes, scan_taken, blocked_load, IsStill, RowTried}

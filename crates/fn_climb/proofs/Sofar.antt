@@ -19,14 +19,11 @@ use Rattle.fn_core.specs.declared.answer.CoreStep.TheVariants as told
 use Rattle.fn_core.specs.State.{State, opened, stage}
 use Rattle.fn_core.specs.Machine.{Legal}
 use Rattle.fn_core.specs.Bound.{rank, visited_by, steps_left, steps_left_by}
-use Rattle.fn_core.specs.Positions.{is_out, IsClimbing}
+use Rattle.fn_core.specs.Positions.{is_out, IsClimbing, Fits}
 use Rattle.fn_core.specs.Laws.{HoldsRows}
 use Rattle.fn_core.specs.Calls.{CoreLog, state_in, IsLegal, HasCall, Follows, HasFewLeft}
 use Rattle.fn_core.specs.Polls.{is_going, is_exchange, exchanges}
-use Rattle.fn_core.proofs.Members.{members_few}
-use Rattle.fn_core.proofs.Whole.{stages_of, climbing}
-use Rattle.fn_core.proofs.Laws.{holds}
-use Rattle.fn_core.proofs.Follows.{legal_parts, in_call}
+use Rattle.fn_core.proofs.Public.{members_few, positions_fit, legal_parts, in_call}
 use Rattle.fn_table.specs.Seen.{PassView, event, with_log}
 use Rattle.fn_climb.specs.Next.{PendingView, IsNext}
 use Rattle.fn_climb.specs.Steps.{HasSameCall, Went}
@@ -67,7 +64,8 @@ some_left core p n legal range u = ⊎_elim climbs decides (in_call core.start c
 
     climbs : (kind : Kind) × (level : ℕ) × ((s.callers p).position ≡ Climbing kind level) → 1 ≤ steps_left core.start s p n
     climbs (kind, level, is) =
-        let up : IsClimbing core.start.shape.levels (stages_of core.start s p) kind level = climbing core.start legal.0 s (holds core.start core.log legal.0 legal.1).0 p kind level is in
+        let stages : Kind → ℕ → Stage = λ k l. stage core.start s k l p in
+        let up : IsClimbing core.start.shape.levels stages kind level = subst (Fits core.start.shape.levels stages) is (positions_fit core.start core.log legal.0 legal.1 p) in
         omega (arith, ap (steps_left_by core.start s p n) is, rank_some n (visited_by core.start s p kind level) (stage core.start s kind level p) up.there)
 
     decides : (kind : Kind) × (level word : ℕ) × ((s.callers p).position ≡ Deciding kind level word) → 1 ≤ steps_left core.start s p n

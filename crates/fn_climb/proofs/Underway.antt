@@ -8,15 +8,12 @@ use Rattle.fn_layout.specs.Words.{IsSlot, IsAggregator}
 use Rattle.fn_layout.proofs.Tree.{aggregator_below}
 use Rattle.fn_core.specs.declared.Move.TheVariants.{Exchange}
 use Rattle.fn_core.specs.declared.Position.TheVariants.{Climbing, Deciding}
-use Rattle.fn_core.specs.State.{State, opened, stage, hi_of, lo_of}
+use Rattle.fn_core.specs.State.{State, stage, hi_of, lo_of}
 use Rattle.fn_core.specs.Words.{IsPlaced}
 use Rattle.fn_core.specs.Order.{next_at, next_by}
 use Rattle.fn_core.specs.Positions.{IsClimbing, Fits}
 use Rattle.fn_core.specs.Calls.{state_in}
-use Rattle.fn_core.proofs.Others.{tidy_opened}
-use Rattle.fn_core.proofs.Tells.{tidy_run}
-use Rattle.fn_core.proofs.Filling.{calls_always_go_on}
-use Rattle.fn_core.proofs.Laws.{holds}
+use Rattle.fn_core.proofs.Public.{calls_are_placed, calls_always_go_on, positions_fit}
 use Rattle.fn_table.specs.Seen.{PassView, May, own_of}
 use Rattle.fn_climb.specs.declared.course.Course.{Course}
 use Rattle.fn_climb.specs.Course.{position_by, position_of, held_at, Holds}
@@ -35,7 +32,7 @@ module _ (p : PassView) (c : Course) (h : Holds p c) where
 
   -- its kind and level
   pub placed : IsFunnelled c.kind × IsLevel shape c.level
-  placed = placed_by c.word (subst (IsPlaced shape) h.course.position ((tidy_run p.seen.start p.seen.log (opened p.seen.start) (tidy_opened p.seen.start) h.legal.1).placed p.number))
+  placed = placed_by c.word (subst (IsPlaced shape) h.course.position (calls_are_placed p.seen.start p.seen.log h.legal.1 p.number))
 
   pub slot : IsSlot shape p.number c.kind c.level
   slot = (h.inside, placed.0, placed.1)
@@ -48,7 +45,7 @@ module _ (p : PassView) (c : Course) (h : Holds p c) where
   fits_by (Some word) fits = fits.0
 
   fits : Fits shape.levels (own_of p).stages (position_of c)
-  fits = subst (Fits shape.levels (own_of p).stages) h.course.position ((holds p.seen.start p.seen.log h.legal.0 h.legal.1).0.fits p.number)
+  fits = subst (Fits shape.levels (own_of p).stages) h.course.position (positions_fit p.seen.start p.seen.log h.legal.0 h.legal.1 p.number)
 
   -- where its pass stands at each level
   pub climbs : IsClimbing shape.levels (own_of p).stages c.kind c.level

@@ -79,3 +79,5 @@ pub mod HeldBases
 pub mod Offsets
 pub mod Needs
 pub mod GoneUp
+pub mod Climbing
+pub mod Public

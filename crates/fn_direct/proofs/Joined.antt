@@ -24,11 +24,7 @@ use Rattle.fn_core.specs.After.{in_position, with_call, loaded_own, exchanged_ow
 use Rattle.fn_core.specs.Laws.{HasReply, MeetsMain}
 use Rattle.fn_core.specs.Calls.{CoreLog, state_in, calls_in, IsLegal, IsIdle, left_of, with_move}
 use Rattle.fn_core.specs.Entries.{IsAlone, EntersAlone}
-use Rattle.fn_core.proofs.Entered.{direct_calls_are_alone}
-use Rattle.fn_core.proofs.Filling.{legal_push, run_push}
-use Rattle.fn_core.proofs.Follows.{legal_parts, run_parts}
-use Rattle.fn_core.proofs.Grows.{histories_grow, places_are_beyond, replies_are_bounded}
-use Rattle.fn_core.proofs.Laws.{direct_replies_are_right}
+use Rattle.fn_core.proofs.Public.{direct_calls_are_alone, legal_push, run_push, legal_parts, run_parts, histories_grow, places_are_beyond, replies_are_bounded, direct_replies_are_right}
 use Rattle.fn_table.specs.Seen.{PassView, Stepped, event, own_of, with_log}
 use Rattle.fn_table.proofs.OwnCalls.{own_kept, legal_now, is_start, legal_before, allowed_then, own_before, made_before, caller_now}
 use Rattle.fn_table.specs.Called.{call_of, HasCalled, HasMadeNone}

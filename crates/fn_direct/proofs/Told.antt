@@ -8,7 +8,7 @@ use Rattle.fn_core.specs.declared.Move.{Move}
 use Rattle.fn_core.specs.declared.Move.TheVariants.{Load, Exchange, Glance}
 use Rattle.fn_core.specs.declared.Purpose.TheVariants as purpose
 use Rattle.fn_core.specs.Calls.{calls_in}
-use Rattle.fn_core.proofs.Orders.{histories_go_on}
+use Rattle.fn_core.proofs.Public.{histories_go_on}
 use Rattle.fn_table.specs.Seen.{PassView, NoteView, Stepped, Met, event}
 use Rattle.fn_table.specs.Later.{IsLater}
 use Rattle.fn_table.specs.Called.{HasCalled, HasMadeNone}

@@ -6,7 +6,7 @@ use Rattle.fn_model.specs.declared.Kind.{Kind}
 use Rattle.fn_core.specs.declared.Start.{Start}
 use Rattle.fn_core.specs.declared.answer.Blocked.{Blocked}
 use Rattle.fn_core.specs.Calls.{CoreLog, IsLegal, IsIdle}
-use Rattle.fn_core.proofs.Entered.{entries_stay}
+use Rattle.fn_core.proofs.Public.{entries_stay}
 use Rattle.fn_core.specs.Entries.{IsAlone}
 use Rattle.fn_table.specs.Seen.{PassView}
 use Rattle.fn_climb.specs.Next.{PendingView}

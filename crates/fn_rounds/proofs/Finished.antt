@@ -18,7 +18,7 @@ use Rattle.fn_core.specs.declared.Start.{Start}
 use Rattle.fn_core.specs.declared.Move.TheVariants.{Glance}
 use Rattle.fn_core.specs.Machine.{no_cap}
 use Rattle.fn_core.specs.Calls.{CoreLog, calls_in, IsIdle}
-use Rattle.fn_core.proofs.Orders.{histories_go_on}
+use Rattle.fn_core.proofs.Public.{histories_go_on}
 use Rattle.fn_table.specs.Seen.{TableView, PassView, IsClosed, IsOf, AreAll, event, fresh, fresh_passes}
 use Rattle.fn_table.specs.Claims.{past, Rests}
 use Rattle.script_text.specs.Sound.{IsSound, HasPasses, allowance}

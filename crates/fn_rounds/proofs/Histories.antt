@@ -11,8 +11,7 @@ use Rattle.fn_model.proofs.Calls.{reply_stays}
 use Rattle.fn_core.specs.declared.Start.{Start}
 use Rattle.fn_core.specs.Calls.{IsIdle, left_of}
 use Rattle.fn_core.specs.Laws.{AreNumbered}
-use Rattle.fn_core.proofs.Orders.{histories_go_on}
-use Rattle.fn_core.proofs.Owned.{own_calls_are_in_order}
+use Rattle.fn_core.proofs.Public.{histories_go_on, own_calls_are_in_order}
 use Rattle.fn_table.specs.Seen.{PassView, own_of}
 use Rattle.fn_table.specs.Called.{call_of}
 use Rattle.fn_table.specs.Claims.{past, mine, left, next_of, Made}

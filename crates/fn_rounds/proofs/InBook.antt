@@ -15,7 +15,7 @@ use Rattle.fn_model.proofs.Calls.{reply_stays}
 use Rattle.fn_core.specs.declared.Start.{Start}
 use Rattle.fn_core.specs.State.{State, opened, history_in}
 use Rattle.fn_core.specs.Calls.{CoreLog, calls_in, state_in, IsLegal}
-use Rattle.fn_core.proofs.Orders.{calls_are_of_passes}
+use Rattle.fn_core.proofs.Public.{calls_are_of_passes}
 use Rattle.fn_table.specs.Seen.{TableView, PassView, fresh}
 use Rattle.fn_table.proofs.Glances.{glances_idle, glances_run}
 use Rattle.fn_table.specs.Claims.{past, mine, left, Rests}

@@ -12,3 +12,4 @@ pub mod Found
 pub mod Fields
 pub mod Taken
 pub mod Free
+pub mod Public

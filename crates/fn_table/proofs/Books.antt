@@ -5,7 +5,7 @@ use Rattle.std.proofs.lemmas.List.Elements.{All-head, All-tail, All-weaker}
 use Rattle.fn_model.specs.declared.Call.{Call}
 use Rattle.fn_model.specs.Calls.{own}
 use Rattle.fn_core.specs.Calls.{CoreLog, calls_in, IsLegal}
-use Rattle.fn_core.proofs.Orders.{calls_are_of_passes}
+use Rattle.fn_core.proofs.Public.{calls_are_of_passes}
 
 -- a pass that made none of these calls has no own calls among them
 pub none_own : (pass : ℕ) (calls : List Call) → All (λ (c : Call). c.pass ≢ pass) calls → own pass calls ≡ []

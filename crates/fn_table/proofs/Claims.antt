@@ -13,9 +13,7 @@ use Rattle.fn_core.specs.Batches.{has_come}
 use Rattle.fn_core.specs.Positions.{Fits}
 use Rattle.fn_core.specs.Laws.{HasReply}
 use Rattle.fn_core.specs.Calls.{CoreLog, state_in, calls_in, IsLegal, IsIdle, HasCall, left_of}
-use Rattle.fn_core.proofs.Grows.{positions_fit}
-use Rattle.fn_core.proofs.Orders.{histories_go_on}
-use Rattle.fn_core.proofs.Owned.{own_calls_are_in_order}
+use Rattle.fn_core.proofs.Public.{positions_fit, histories_go_on, own_calls_are_in_order}
 use Rattle.fn_table.specs.Seen.{PassView, own_of}
 use Rattle.fn_table.specs.Later.{IsLater}
 use Rattle.fn_table.specs.Called.{call_of, HasCalled, HasMadeNone}

@@ -15,11 +15,9 @@ use Rattle.fn_core.specs.declared.Move.TheVariants.{Arrive, Apply, Direct}
 use Rattle.fn_core.specs.State.{State}
 use Rattle.fn_core.specs.Machine.{IsStart}
 use Rattle.fn_core.specs.Words.{word, words_of, IsPlaced}
-use Rattle.fn_core.proofs.Lists.{length-list_of}
-use Rattle.fn_core.proofs.Homes.{word_found}
-use Rattle.fn_core.proofs.Laws.{words_are_small}
+use Rattle.fn_core.proofs.Public.{length-list_of, word_found, words_are_small}
 use Rattle.fn_table.specs.Funnel.{MayTake, funnel, AdditionsFit, addition}
-use Rattle.fn_table.proofs.FunnelLaws.{guards_are_own, logs_are_legal, tidy_after, within_after, laws}
+use Rattle.fn_table.proofs.FunnelLaws.{guards_are_own, logs_are_legal, placed_after, within_after, laws}
 
 arrival_fits : (start : Start) (log : List Event) (pass : ℕ) (kind : Kind) (below weight : ℕ) → let event : Event = record { pass = pass; step = Arrive kind (suc below) weight } in
     IsLegal funnel start log → MayTake start (own_of funnel start log pass) event → found funnel start log event + weight < 2 ^ 63
@@ -28,7 +26,7 @@ arrival_fits start log pass kind below weight legal guard =
     let s : State = state_of funnel start log in
     let more : List Event = log ++ event ∷ [] in
     let may = (guards_are_own start s event guard).1 in
-    let placed = subst (IsPlaced start.shape) may.0.0 ((tidy_after start log legal).placed pass) in
+    let placed = subst (IsPlaced start.shape) may.0.0 (placed_after start log legal pass) in
     let index : ℕ = aggregator start.shape pass (suc below) in
     let name : Name = Value kind (suc below) index in
     let at : ℕ = number start.shape name in

@@ -1,7 +1,7 @@
 -- The funnel is a machine of the running rule.
 use Rattle.std.proofs.Common.{◌≡◌, ℕ, ◌+◌, min, arith, slice_index, List, [], ◌∷◌, fold, refl, sym, ap, subst, ◌∙◌}
 use Rattle.running.specs.Machine.{Laws, IsLegal, IsLegalFrom, state_of, found}
-use Rattle.running.proofs.Logs.{state-append, legal_keeps}
+use Rattle.running.proofs.Logs.{state-append}
 use Rattle.fn_core.specs.declared.Event.{Event}
 use Rattle.fn_core.specs.declared.Move.{Move}
 use Rattle.fn_core.specs.declared.Move.TheVariants.{Apply, Direct}
@@ -11,13 +11,9 @@ use Rattle.fn_core.specs.State.{State, opened}
 use Rattle.fn_core.specs.Machine.{Allowed, May, Legal, run, effect, moves, applied_by}
 use Rattle.fn_layout.specs.Words.{number}
 use Rattle.fn_core.specs.After.{own_after}
-use Rattle.fn_core.specs.Words.{Own, own, words_of, name_of}
-use Rattle.fn_core.proofs.Tells.{steps_tell, words_are_found}
+use Rattle.fn_core.specs.Words.{Own, own, words_of, name_of, IsPlaced, LeavesOthers}
+use Rattle.fn_core.proofs.Public.{steps_tell, words_are_found, one_word, calls_are_placed, own_stays, may_is, additions_add_all}
 use Rattle.fn_core.specs.Words as words
-use Rattle.fn_core.proofs.Events.{one_word}
-use Rattle.fn_core.proofs.Others.{IsTidy, passes, tidy_opened}
-use Rattle.fn_core.proofs.Guards.{may_is}
-use Rattle.fn_core.proofs.Laws.{additions_add_all}
 use Rattle.fn_table.specs.Funnel.{MayTake, funnel, LogsAreLegal, GuardsAreOwn, StepsAreTold}
 
 pub guards_are_own : GuardsAreOwn
@@ -30,10 +26,17 @@ legal_from start s (event ∷ log) h = let r = legal_from start (effect start s 
 pub logs_are_legal : LogsAreLegal
 logs_are_legal start log h = legal_from start (opened start) log h
 
--- all is tidy after every legal log
-pub tidy_after : (start : Start) (log : List Event) → IsLegal funnel start log → IsTidy start (state_of funnel start log)
-tidy_after start log legal =
-    legal_keeps funnel start (IsTidy start) (tidy_opened start) (λ s event tidy guard. (passes start event.pass s event.step tidy (guards_are_own start s event guard).1).tidy) log legal
+-- a call stands at a level of the shape after every legal log
+pub placed_after : (start : Start) (log : List Event) → IsLegal funnel start log → (pass : ℕ) → IsPlaced start.shape ((state_of funnel start log).callers pass).position
+placed_after start log legal pass =
+    let l = logs_are_legal start log legal in
+    subst (λ (x : State). IsPlaced start.shape (x.callers pass).position) l.1 (calls_are_placed start log l.0 pass)
+
+-- an event leaves what the guards of the other passes read
+others_left : (start : Start) (log : List Event) (event : Event) → IsLegal funnel start log → Allowed start (state_of funnel start log) event → LeavesOthers start event.pass (state_of funnel start log) (effect start (state_of funnel start log) event)
+others_left start log event legal allowed q ne =
+    let l = logs_are_legal start log legal in
+    subst (λ (x : State). own start (effect start x event) q ≡ own start x q) l.1 (own_stays start log l.0 event (subst (λ (x : State). Allowed start x event) (sym l.1) allowed) q ne)
 
 -- the event adds its whole amount
 abbrev AddsAll : Start → State → Event → Type 0
@@ -57,12 +60,11 @@ within_after start log event legal guard =
 
 pub laws : Laws funnel
 laws = record {
-  others = λ start log event q legal guard ne.
-      (passes start event.pass (state_of funnel start log) event.step (tidy_after start log legal) (guards_are_own start (state_of funnel start log) event guard).1).others q ne;
+  others = λ start log event q legal guard ne. others_left start log event legal (guards_are_own start (state_of funnel start log) event guard) q ne;
   one_word = λ start log event legal guard.
       (let allowed : Allowed start (state_of funnel start log) event = guards_are_own start (state_of funnel start log) event guard in
       ap (words.words_of start) (state-append funnel start log (event ∷ []))
-      ∙ one_word start (state_of funnel start log) event.pass allowed.0 event.step ((tidy_after start log legal).placed event.pass) (within_after start log event legal guard) allowed.1);
+      ∙ one_word start (state_of funnel start log) event.pass allowed.0 event.step (placed_after start log legal event.pass) (within_after start log event legal guard) allowed.1);
 }
 
 pub steps_are_told : StepsAreTold

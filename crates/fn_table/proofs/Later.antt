@@ -7,7 +7,7 @@ use Rattle.fn_core.specs.declared.Start.{Start}
 use Rattle.fn_core.specs.State.{opened}
 use Rattle.fn_core.specs.Machine.{IsStart, Legal}
 use Rattle.fn_core.specs.Calls.{IsLegal}
-use Rattle.fn_core.proofs.Follows.{legal_parts}
+use Rattle.fn_core.proofs.Public.{legal_parts}
 use Rattle.fn_table.specs.Seen.{PassView, event}
 use Rattle.fn_table.specs.Later.{IsLater, StepsAreLater, LaterPassesGoOn, LaterPassesStayAtTheirTable}
 

@@ -9,7 +9,7 @@ use Rattle.fn_rows.specs.declared.Field.TheVariants.{Lo, Base, Prev}
 use Rattle.fn_core.specs.declared.Start.{Start}
 use Rattle.fn_core.specs.State.{State, opened}
 use Rattle.fn_core.specs.Words.{word, words_of, list_of}
-use Rattle.fn_core.proofs.Lists.{list_of-set}
+use Rattle.fn_core.proofs.Public.{list_of-set}
 use Rattle.fn_table.specs.Seen.{TableView, PassView, IsOf, IsWhole, AreOpened, fresh, fresh_passes}
 use Rattle.fn_table.proofs.Glances.{glances_run, glances_idle}
 

@@ -16,7 +16,7 @@ use Rattle.fn_core.specs.Machine.{Allowed, run}
 use Rattle.fn_core.specs.Words.{Own, name_of, word, words_of}
 use Rattle.fn_core.specs.After.{own_after}
 use Rattle.fn_core.specs.Calls.{state_in, IsLegal}
-use Rattle.fn_core.proofs.Tells.{words_are_found}
+use Rattle.fn_core.proofs.Public.{words_are_found}
 use Rattle.fn_table.specs.Funnel.{MayTake, funnel}
 use Rattle.fn_table.specs.Seen.{TableView, PassView, IsOf, May, Stepped, own_of, event, place}
 use Rattle.fn_table.specs.Seats.{Known, shown, HasOne, IsStep, taken_by}

@@ -13,13 +13,7 @@ use Rattle.fn_core.specs.State.{State, opened, history_in}
 use Rattle.fn_core.specs.Machine.{IsStart, Legal, Allowed, run}
 use Rattle.fn_core.specs.Words.{Own, own}
 use Rattle.fn_core.specs.Calls.{CoreLog, state_in, calls_in, IsLegal, IsIdle, with_move}
-use Rattle.fn_core.proofs.Counted.{opened_counted}
-use Rattle.fn_core.proofs.Filling.{run_push}
-use Rattle.fn_core.proofs.Follows.{legal_parts, run_parts}
-use Rattle.fn_core.proofs.Joins.{own_calls_stay}
-use Rattle.fn_core.proofs.Log.{opened_whole}
-use Rattle.fn_core.proofs.Owned.{opened_owned, log_owned, out_idle}
-use Rattle.fn_core.proofs.Whole.{FitsAt}
+use Rattle.fn_core.proofs.Public.{run_push, legal_parts, run_parts, own_calls_stay, resting_passes_have_no_call}
 use Rattle.fn_table.specs.Funnel.{funnel}
 use Rattle.fn_table.specs.Seen.{PassView, TableView, Stepped, HasAll, IsOf, AreAll, IsClosed, event, own_of, with_log}
 use Rattle.fn_table.proofs.FunnelLaws.{laws}
@@ -43,10 +37,8 @@ module _ (p : PassView) (range : p.number < p.seen.start.shape.passes) (before :
   -- its own calls are the same
   pub own_kept : own_calls p.number (calls_in (with_log p before)) ≡ own_calls p.number (calls_in p.seen)
   own_kept =
-      let all = log_owned start ok p.seen.log (opened start) (opened_whole start ok) (opened_counted start) (opened_owned start) parts.0 in
-      let rests = subst (FitsAt start (state_in p.seen) p.number) idle (all.0.fits p.number) in
       subst (λ (s : State). own_calls p.number (history_in start s) ≡ own_calls p.number (calls_in p.seen)) here
-      (own_calls_stay start p.seen.log ok parts.0 later parts.1 p.number (out_idle start ok (state_in p.seen) all.0 all.1 all.2 p.number range rests) (ap (λ (s : State). (s.callers p.number).made) here ∙ made))
+      (own_calls_stay start p.seen.log ok parts.0 later parts.1 p.number (resting_passes_have_no_call p.seen (ok, parts.0) p.number range idle) (ap (λ (s : State). (s.callers p.number).made) here ∙ made))
 
 -- what a step says of the pass's own before it and after it
 module _ (p : PassView) (step : Move) (n : ℕ) (q : PassView) (stepped : Stepped p step n q) where

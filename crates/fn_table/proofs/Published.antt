@@ -22,7 +22,7 @@ use Rattle.fn_core.specs.Words.{Own, end_by, own}
 use Rattle.fn_core.specs.After.{in_stage, pointed_stage, published_stage, published_ends}
 use Rattle.fn_core.specs.Positions.{IsClimbing, Fits}
 use Rattle.fn_core.specs.Calls.{IsLegal}
-use Rattle.fn_core.proofs.Grows.{positions_fit}
+use Rattle.fn_core.proofs.Public.{positions_fit}
 use Rattle.fn_table.specs.declared.tally.Tally.{Tally}
 use Rattle.fn_table.specs.Seen.{TableView, PassView, May, Stepped, own_of, fresh}
 use Rattle.fn_table.specs.Kept.{KeepsOwn, Keeps}

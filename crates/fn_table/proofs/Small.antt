@@ -10,7 +10,7 @@ use Rattle.fn_core.specs.declared.Move.TheVariants.{Announce, Arrive, Apply, Dir
 use Rattle.fn_core.specs.declared.Start.{Start}
 use Rattle.fn_core.specs.Words.{Own, change}
 use Rattle.fn_core.specs.Calls.{IsLegal}
-use Rattle.fn_core.proofs.Laws.{rows_are_lawful, words_are_small}
+use Rattle.fn_core.proofs.Public.{rows_are_lawful, words_are_small}
 use Rattle.fn_table.specs.Funnel.{MayTake, funnel, addition}
 use Rattle.fn_table.specs.Seen.{PassView, May, own_of, event}
 use Rattle.fn_table.specs.Seats.{IsStep}

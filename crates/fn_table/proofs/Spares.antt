@@ -17,7 +17,7 @@ use Rattle.fn_core.specs.declared.Position.TheVariants.{Resting, Trying, Climbin
 use Rattle.fn_core.specs.State.{Caller}
 use Rattle.fn_core.specs.Words.{Own}
 use Rattle.fn_core.specs.After.{put_level, own_with, in_stage, told_stage, looked_stage, closed_stage, based_stage, headed_stage, peeked_stage, based_own, filled_own, peeked_own, loaded_own, row_read, own_after}
-use Rattle.fn_core.proofs.Put.{same_kind-refl}
+use Rattle.fn_core.proofs.Public.{same_kind-refl}
 use Rattle.fn_table.specs.Seen.{PassView, May, own_of}
 use Rattle.fn_table.specs.Kept.{is_calling, KeepsTally}
 use Rattle.fn_core.specs.Machine.{May as MayMove, local_row}

@@ -24,8 +24,7 @@ use Rattle.fn_core.specs.Machine.{local_row, no_cap, HasFreeRow, MayPoint, place
 use Rattle.fn_core.specs.Words.{Own, link, fill_word, filled_word}
 use Rattle.fn_core.specs.After.{own_after, told_stage, looked_stage, closed_stage, based_stage, headed_stage, pointed_stage, published_stage, based_own, filled_own, row_read}
 use Rattle.fn_core.specs.Calls.{IsLegal, IsIdle, left_of, state_in}
-use Rattle.fn_core.proofs.Linked.{row_read-link}
-use Rattle.fn_core.proofs.Tells.{last_mine}
+use Rattle.fn_core.proofs.Public.{row_read-link, last_mine}
 use Rattle.fn_table.specs.Funnel.{funnel}
 use Rattle.fn_table.specs.Seen.{TableView, PassView, IsOf, May, Stepped, own_of, event, with_log}
 use Rattle.fn_table.specs.Standing.{StandsAt}

@@ -14,7 +14,7 @@ use Rattle.fn_model.specs.Calls.{own as own_calls}
 use Rattle.fn_core.specs.declared.Event.{Event}
 use Rattle.fn_core.specs.declared.Move.TheVariants.{Glance}
 use Rattle.fn_core.specs.Calls.{calls_in}
-use Rattle.fn_core.proofs.Orders.{histories_go_on, calls_are_of_passes}
+use Rattle.fn_core.proofs.Public.{histories_go_on, calls_are_of_passes}
 use Rattle.fn_table.specs.Seen.{PassView, event}
 use Rattle.fn_table.specs.Seen as tokens
 use Rattle.fn_table.specs.Claims.{Rests}

@@ -11,7 +11,7 @@ use Rattle.fn_core.specs.declared.Event.{Event}
 use Rattle.fn_core.specs.declared.Move.TheVariants.{Glance}
 use Rattle.fn_core.specs.declared.Start.{Start}
 use Rattle.fn_core.specs.Calls.{CoreLog, calls_in, IsLegal}
-use Rattle.fn_core.proofs.Orders.{histories_go_on}
+use Rattle.fn_core.proofs.Public.{histories_go_on}
 use Rattle.fn_table.specs.Seen.{TableView, PassView, IsClosed, event}
 use Rattle.fn_table.proofs.Books.{none_outside}
 use Rattle.quota_pool.specs.Claims.{HasCallsOf, TellsBook, TellsBooks}

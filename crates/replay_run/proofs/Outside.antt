@@ -7,7 +7,7 @@ use Rattle.fn_model.specs.declared.Kind.{Kind}
 use Rattle.fn_model.specs.declared.Kind.TheVariants as kind
 use Rattle.fn_model.specs.Integer.{after, value}
 use Rattle.fn_core.specs.Calls.{CoreLog, calls_in, IsLegal}
-use Rattle.fn_core.proofs.Laws.{main_is_value}
+use Rattle.fn_core.proofs.Public.{main_is_value}
 
 -- what a call adds
 abbrev pub adds : Kind → ℕ → ℕ

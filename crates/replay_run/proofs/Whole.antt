@@ -14,14 +14,13 @@ use Rattle.fn_model.specs.Calls.{own}
 use Rattle.fn_model.specs.Integer.{Meets}
 use Rattle.fn_core.specs.declared.Start.{Start}
 use Rattle.fn_core.specs.Calls.{CoreLog, calls_in, IsLegal}
-use Rattle.fn_core.proofs.Orders.{histories_go_on}
+use Rattle.fn_core.proofs.Public.{histories_go_on, entries_stay}
 use Rattle.fn_table.specs.Seen.{TableView, PassView, IsClosed, fresh}
 use Rattle.fn_table.specs.Called.{call_of as next_call}
 use Rattle.fn_table.specs.Claims.{past}
 use Rattle.fn_layout.specs.Workers.{IsShapeFor}
 use Rattle.fn_funnel.specs.declared.waiting.Way.{Way}
 use Rattle.fn_funnel.proofs.Calls.{entered_stays}
-use Rattle.fn_core.proofs.Entered.{entries_stay}
 use Rattle.quota_pool.specs.Calls.{EntersBy}
 use Rattle.running.proofs.Lists.{length_numbers}
 use Rattle.running.proofs.Logs.{prefix_on}

@@ -10,7 +10,7 @@ use Rattle.fn_core.specs.declared.answer.CoreStep.{CoreStep}
 use Rattle.fn_core.specs.declared.answer.CoreStep.TheVariants.{Going, Ready, NotYet}
 use Rattle.fn_core.specs.State.{Caller as Standing}
 use Rattle.fn_core.specs.Calls.{CoreLog, Follows, HasCall, IsIdle, IsLegal, calls_in}
-use Rattle.fn_core.proofs.Orders.{resting_passes_have_no_call}
+use Rattle.fn_core.proofs.Public.{resting_passes_have_no_call}
 use Rattle.fn_table.specs.Seen.{PassView, own_of}
 use Rattle.fn_climb.specs.Next.{PendingView}
 use Rattle.fn_climb.specs.Begin.{HasBegun}

@@ -11,7 +11,7 @@ use Rattle.fn_core.specs.State.{opened}
 use Rattle.fn_core.specs.Machine.{moves}
 use Rattle.fn_core.specs.Begin.{events_of}
 use Rattle.fn_core.specs.Calls.{CoreLog, Follows, HasCall, IsIdle, LeavesOthers, left_of, state_in, with_move, with_moves}
-use Rattle.fn_core.proofs.Orders.{runs_go_on}
+use Rattle.fn_core.proofs.Public.{runs_go_on}
 use Rattle.script_run.specs.Play.{is_resting}
 use Rattle.script_run.specs.Doing.{Leaves}
 

@@ -16,8 +16,7 @@ use Rattle.fn_core.specs.Order.{next_move}
 use Rattle.fn_core.specs.Begin.{begin_moves, begun, events_of, spent}
 use Rattle.fn_core.specs.Calls.{CoreLog, Follows, HasCall, IsIdle, IsLegal, MayOwn, calls_in, left_of, own_moves, state_in, step_answer, with_move, with_moves}
 use Rattle.fn_core.specs.Orders.{BeginningLeaves, OwnCallLeaves, StepLeaves}
-use Rattle.fn_core.proofs.Orders.{beginnings_leave, own_calls_leave, resting_passes_have_no_call, steps_leave}
-use Rattle.fn_core.proofs.Polls.{steps_follow}
+use Rattle.fn_core.proofs.Public.{beginnings_leave, own_calls_leave, resting_passes_have_no_call, steps_leave, steps_follow}
 use Rattle.script_run.specs.declared.lines.LineAnswer.{LineAnswer}
 use Rattle.script_run.specs.declared.lines.LineAnswer.TheVariants as answer
 use Rattle.script_run.specs.Play.{begun_answer, told_answer}

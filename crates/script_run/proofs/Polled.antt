@@ -7,7 +7,7 @@ use Rattle.fn_core.specs.declared.answer.CoreStep.TheVariants.{Going, Ready, Not
 use Rattle.fn_core.specs.Calls.{CoreLog, Follows, HasCall, IsLegal, left_of, state_in, step_answer, with_moves}
 use Rattle.script_run.specs.declared.lines.LineAnswer.{LineAnswer}
 use Rattle.fn_core.specs.Polls.{is_going, poll_answer, poll_moves}
-use Rattle.fn_core.proofs.Polls.{steps_follow}
+use Rattle.fn_core.proofs.Public.{steps_follow}
 use Rattle.script_run.specs.Play.{told_answer}
 use Rattle.script_run.specs.Doing.{Leaves}
 use Rattle.script_run.proofs.Polling.{answer-end, answer-on, fewer-left, left_steps, moves-end, moves-on, stepped}

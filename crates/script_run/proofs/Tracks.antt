@@ -10,9 +10,7 @@ use Rattle.fn_core.specs.State.{Caller, State, opened, history_in}
 use Rattle.fn_core.specs.Machine.{Legal, run}
 use Rattle.fn_core.specs.Calls.{CoreLog, HasCall, IsIdle, IsLegal, calls_in, state_in}
 use Rattle.fn_core.specs.Orders.{HasSameCalls}
-use Rattle.fn_core.proofs.Joins.{own_calls_stay}
-use Rattle.fn_core.proofs.Orders.{logs_are_parted_and_joined, resting_passes_have_no_call, runs_go_on}
-use Rattle.fn_core.proofs.Owned.{own_calls_are_in_order}
+use Rattle.fn_core.proofs.Public.{own_calls_stay, logs_are_parted_and_joined, resting_passes_have_no_call, runs_go_on, own_calls_are_in_order}
 
 -- the core after further events
 abbrev pub grown : CoreLog → List Event → CoreLog

@@ -16,9 +16,7 @@ use Rattle.fn_core.specs.Machine.{no_cap}
 use Rattle.fn_core.specs.Laws.{HasReply}
 use Rattle.fn_core.specs.Calls.{CoreLog, HasCall, IsIdle, IsLegal, calls_in, state_in}
 use Rattle.fn_model.proofs.Lists.{has_range, none_found}
-use Rattle.fn_core.proofs.Grows.{histories_grow}
-use Rattle.fn_core.proofs.Laws.{calls_stand_once, main_is_value}
-use Rattle.fn_core.proofs.Orders.{faultless_starts_are_starts}
+use Rattle.fn_core.proofs.Public.{histories_grow, calls_stand_once, main_is_value, faultless_starts_are_starts}
 use Rattle.script_text.specs.Order.{amount}
 use Rattle.script_text.specs.Sound.{HasAmount, HasPasses, IsSound, allowances}
 use Rattle.script_text.proofs.Allowed.{add_up, allowances-count}

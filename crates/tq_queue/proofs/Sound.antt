@@ -15,8 +15,7 @@ use Rattle.fn_core.specs.declared.Start.{Start}
 use Rattle.fn_core.specs.declared.Event as funnel
 use Rattle.fn_core.specs.declared.Move.TheVariants.{Glance}
 use Rattle.fn_core.specs.Calls.{CoreLog, calls_in, IsLegal}
-use Rattle.fn_core.proofs.Grows.{replies_are_bounded}
-use Rattle.fn_core.proofs.Orders.{calls_are_of_passes}
+use Rattle.fn_core.proofs.Public.{replies_are_bounded, calls_are_of_passes}
 use Rattle.fn_table.specs.Seen.{TableView, PassView}
 use Rattle.tq_cells.specs.declared.entry.Entry.{Entry}
 use Rattle.tq_cells.specs.declared.entry.Entry.TheVariants as entries

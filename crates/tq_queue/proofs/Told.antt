@@ -9,7 +9,7 @@ use Rattle.fn_model.specs.Calls.{own, place}
 use Rattle.fn_model.specs.Integer.{before}
 use Rattle.fn_core.specs.declared.Start.{Start}
 use Rattle.fn_core.specs.Calls.{CoreLog, calls_in, IsLegal}
-use Rattle.fn_core.proofs.Orders.{histories_go_on}
+use Rattle.fn_core.proofs.Public.{histories_go_on}
 use Rattle.fn_table.specs.Claims.{past, mine, next_of}
 use Rattle.tq_cells.specs.declared.entry.Entry.{Entry}
 use Rattle.tq_cells.specs.declared.entry.Event as cell

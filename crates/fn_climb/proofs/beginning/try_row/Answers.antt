@@ -3,7 +3,7 @@ use Rattle.fn_layout.specs.Tree.{IsLevel, aggregator, members}
 use Rattle.fn_rows.specs.Machine.{Lets}
 use Rattle.fn_core.specs.declared.Start.{Start}
 use Rattle.fn_core.specs.Order.{lets}
-use Rattle.fn_core.proofs.Tries.{lets_where, blocks_where}
+use Rattle.fn_core.proofs.Public.{lets_where, blocks_where}
 use Rattle.fn_climb.proofs.Scans.{IsMember, is_member, member_inside, member_other, before_member, past_member, member_skip, past_all, row_start, row_more, row_stop, row_through, row_unused, may_scan, of_still}
 use Rattle.fn_climb.proofs.beginning.try_row.Goals as goal
 

@@ -1,6 +1,6 @@
 use Rattle.std.proofs.Common.{◌∙◌, ap, subst}
 use Rattle.fn_core.specs.Calls.{CoreLog, state_in, IsLegal}
-use Rattle.fn_core.proofs.Laws.{main_is_value}
+use Rattle.fn_core.proofs.Public.{main_is_value}
 use Rattle.fn_table.proofs.book.Book.value.Goals as goal
 
 pub returns : goal.returns
