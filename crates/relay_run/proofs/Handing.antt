@@ -1,13 +1,11 @@
 -- What the workers hand in, and what it makes of the book and of the order.
-use Rattle.std.proofs.Common.{◌≡◌, ℕ, zero, suc, ◌+◌, ◌<◌, ◌≤◌, List, [], ◌∷◌, ◌++◌, length, map, get_or, replicate, Global, Bool, true, inl, inr, refl, sym, ◌∙◌, ap, subst, arith}
-use Rattle.std.specs.Prelude.{◌==◌, All, sum_by, nat_lt, if◌then◌else◌}
+use Rattle.std.proofs.Common.{◌≡◌, ℕ, zero, suc, ◌+◌, ◌<◌, ◌≤◌, List, [], ◌∷◌, ◌++◌, length, map, get_or, replicate, Global, Bool, true, refl, sym, ◌∙◌, ap, subst, arith}
+use Rattle.std.specs.Prelude.{◌==◌, All, count_by, nat_lt, if◌then◌else◌, option_map}
 use Rattle.std.proofs.lemmas.Bool.Decides.{nat_tests}
-use Rattle.std.proofs.lemmas.Bool.{cases_lt}
 use Rattle.std.specs.declared.vec.Vec.{Vec}
 use Rattle.std.proofs.lemmas.List.{length-map}
-use Rattle.std.proofs.lemmas.Option.{get_or_from_slice_get}
+use Rattle.std.proofs.lemmas.Option.{get_or_from_slice_get, slice_get-map}
 use Rattle.std.proofs.lemmas.List.Elements.{All-nil, All-cons, All-head, All-tail, All-filter, All-replicate}
-use Rattle.fn_model.specs.Order.{sum_below}
 use Rattle.running.specs.Running.{upto}
 use Rattle.tq_cells.specs.declared.entry.Event.{Event}
 use Rattle.tq_cells.specs.declared.entry.Start.{Start}
@@ -16,9 +14,7 @@ use Rattle.tq_cells.specs.Seen.{entries_of}
 use Rattle.tq_queue.specs.Kept.{own_puts, tickets_put}
 use Rattle.tq_queue.specs.Laws.{IsSound}
 use Rattle.tq_queue.specs.Seen.{QueueView, CallerView, BookView, IsOf, AreAll, IsClosed}
-use Rattle.tq_queue.proofs.Counting.{tick}
-use Rattle.tq_queue.proofs.Parts.{get-map}
-use Rattle.tq_queue.proofs.Sound.{put_often}
+use Rattle.tq_queue.proofs.Laws.{puts_have_seats}
 use Rattle.relay_run.specs.declared.shares.Share.{Share}
 use Rattle.relay_run.specs.declared.workers.Worker.{Worker}
 use Rattle.relay_run.specs.Relay.{lines_at, items_put, IsRelay, order_of}
@@ -156,7 +152,7 @@ module _ (q : QueueView) (ps : List (CallerView ℕ)) (book : BookView ℕ) (all
       let inside : seat < q.cells.start.seats = omega (arith, range, seats) in
       let pass : CallerView ℕ = pass_of q ps book all closed seat inside in
       ap (λ (l : List (List ℕ)). get_or l seat []) (sym are)
-      ∙ get_or_from_slice_get (map (λ (p : CallerView ℕ). own_puts p.seat) ps) seat (own_puts pass.seat) [] (get-map (λ (p : CallerView ℕ). own_puts p.seat) ps seat pass (pass_at q ps book all closed seat inside))
+      ∙ get_or_from_slice_get (map (λ (p : CallerView ℕ). own_puts p.seat) ps) seat (own_puts pass.seat) [] (slice_get-map (λ (p : CallerView ℕ). own_puts p.seat) ps seat ∙ ap (option_map (λ (p : CallerView ℕ). own_puts p.seat)) (pass_at q ps book all closed seat inside))
       ∙ ap tickets_put (sym (entries_same q ps book all closed seat inside))
 
   stands : (seat : ℕ) → seat < workers → Stand log count (line_of workers seat) 0 (get_or kept seat [])
@@ -175,23 +171,15 @@ module _ (q : QueueView) (ps : List (CallerView ℕ)) (book : BookView ℕ) (all
   pub tickets_below : (i : ℕ) → i < length kept → All (λ t. t < count) (get_or kept i [])
   tickets_below i l = let range : i < workers = omega (arith, l, size) in stand_below log count (line_of workers i) 0 (get_or kept i []) (stands i range)
 
-  -- the seat that has put a ticket
-  ticket_by : (t n : ℕ) → sum_below n (λ p. sum_by (tick t) (tickets_put (entries_of p log))) ≡ 1 → (p : ℕ) × (p < n) × (sum_by (tick t) (tickets_put (entries_of p log)) ≡ 1)
-  ticket_by t zero is = absurd (omega (arith, is))
-  ticket_by t (suc n) is = elim (cases_lt (sum_by (tick t) (tickets_put (entries_of n log))) 1) [
-    | inl none ↦
-        let earlier = ticket_by t n (omega (arith, is, none)) in (earlier.0, omega (arith, earlier.1), earlier.2)
-    | inr some_put ↦ (n, omega arith, omega (arith, is, some_put))
-  ]
-
   pub written : (order : List ℕ) → length order ≡ count → all_filled workers 0 kept order ≡ order_of count book
   written order sized =
       order_is log count (all_filled workers 0 kept order) (length-all_filled log count workers 0 kept order ∙ sized) (λ t less.
       let test : nat_lt t count ≡ true = grind (arith, nat_tests) in
       let once : length (puts t log) ≡ 1 = relay.puts t ∙ ap (λ (b : Bool). if b then 1 else 0) test in
-      let by = ticket_by t workers (sym (subst (λ (n : ℕ). length (puts t log) ≡ sum_below n (λ p. sum_by (tick t) (tickets_put (entries_of p log)))) seats (put_often q.cells.start.seats t log (seats_below q ps book all closed))) ∙ once) in
-      let range : by.0 < length kept = omega (arith, by.1, size) in
-      all_make_right log count workers 0 kept order sized all_stands by.0 t range (ap (sum_by (tick t)) (tickets_are by.0 by.1) ∙ by.2))
+      let by = puts_have_seats q.cells.start.seats book (seats_below q ps book all closed) t once in
+      let seat_range : by.0 < workers = omega (arith, by.1, seats) in
+      let range : by.0 < length kept = omega (arith, seat_range, size) in
+      all_make_right log count workers 0 kept order sized all_stands by.0 t range (ap (count_by (λ x. x == t)) (tickets_are by.0 seat_range) ∙ by.2))
 
   pub written_below : (order : List ℕ) → All (λ x. x < count) order → All (λ x. x < count) (all_filled workers 0 kept order)
   written_below order small = all_keep_below log count workers 0 kept order all_stands small

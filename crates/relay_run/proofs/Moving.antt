@@ -9,7 +9,7 @@ use Rattle.tq_cells.specs.Seen.{SeatView, entries_of}
 use Rattle.tq_queue.specs.Kept.{own_puts, own_takes, tickets_put, tickets_taken}
 use Rattle.tq_queue.specs.Claims.{deed, deeds, MadePut, MadeTake}
 use Rattle.tq_queue.specs.Seen.{QueueView, CallerView, IsOf, fresh, fresh_passes}
-use Rattle.tq_queue.proofs.Done.{done_more, done_puts, done_takes}
+use Rattle.tq_queue.proofs.Laws.{told_grows, own_puts_grow, own_takes_grow}
 use Rattle.relay_run.specs.declared.desks.Desk.{Desk}
 use Rattle.running.specs.Running.{upto, numbers_from}
 use Rattle.relay_run.specs.declared.lines.TheConstants.{MOST_LINES}
@@ -20,7 +20,7 @@ use Rattle.relay_run.proofs.Strides.{length-numbers_from, upto_more, first_more}
 
 -- the items that a deed puts
 done_items : (p : SeatView ℕ) (did : Entry ℕ) (q : SeatView ℕ) → deeds q ≡ deeds p ++ did ∷ [] → own_items q ≡ own_items p ++ item_put did
-done_items p did q is = done_more item_put alike p did q is
+done_items p did q is = told_grows item_put alike p did q is
   where
     alike : (entry : Entry ℕ) → item_put entry ≡ flat_map item_put (deed entry)
     alike (entries.Hold t) = refl
@@ -34,9 +34,9 @@ pub put_advances : (p q : CallerView ℕ) (owed ticket item : ℕ) → MadePut p
     → (let old : Desk = record { pass = p; owed = owed } in let new : Desk = record { pass = q; owed = owed } in Advances old new (ticket ∷ []) (item ∷ []))
 put_advances p q owed ticket item (calls, done) = record {
   number = done.same.1;
-  under = done_puts p.seat (entries.Put ticket item) q.seat done.deeds_now;
+  under = own_puts_grow p.seat (entries.Put ticket item) q.seat done.deeds_now;
   put = done_items p.seat (entries.Put ticket item) q.seat done.deeds_now;
-  takes = ap (λ (l : List ℕ). length l + owed) (done_takes p.seat (entries.Put ticket item) q.seat done.deeds_now ∙ append-nil (own_takes p.seat));
+  takes = ap (λ (l : List ℕ). length l + owed) (own_takes_grow p.seat (entries.Put ticket item) q.seat done.deeds_now ∙ append-nil (own_takes p.seat));
 }
 
 -- a take that was owed
@@ -44,10 +44,10 @@ pub take_advances : (p q : CallerView ℕ) (owed ticket item : ℕ) → 0 < owed
     → (let old : Desk = record { pass = p; owed = owed } in let new : Desk = record { pass = q; owed = owed - 1 } in Advances old new [] [])
 take_advances p q owed ticket item some_owed (calls, done) = record {
   number = done.same.1;
-  under = done_puts p.seat (entries.Take ticket) q.seat done.deeds_now;
+  under = own_puts_grow p.seat (entries.Take ticket) q.seat done.deeds_now;
   put = done_items p.seat (entries.Take ticket) q.seat done.deeds_now;
   takes =
-      let one : length (own_takes q.seat) ≡ length (own_takes p.seat ++ ticket ∷ []) = ap length (done_takes p.seat (entries.Take ticket) q.seat done.deeds_now) in
+      let one : length (own_takes q.seat) ≡ length (own_takes p.seat ++ ticket ∷ []) = ap length (own_takes_grow p.seat (entries.Take ticket) q.seat done.deeds_now) in
       omega (arith, one, length-append (own_takes p.seat) (ticket ∷ []), some_owed);
 }
 

@@ -1,6 +1,6 @@
 -- The order of the tickets keeps each worker's lines, and has each line once.
 use Rattle.std.proofs.Common.{◌≡◌, ℕ, zero, suc, ◌+◌, ◌-◌, ◌%◌, ◌<◌, ◌≤◌, List, [], ◌∷◌, ◌++◌, length, Bool, true, false, cond, inl, inr, refl, sym, ◌∙◌, ap, subst, arith}
-use Rattle.std.specs.Prelude.{◌==◌, All, filter, flat_map, count_by, nat_lt, nat_le, if◌then◌else◌, ◌&&◌}
+use Rattle.std.specs.Prelude.{◌==◌, All, filter, flat_map, count_by, nat_lt, if◌then◌else◌}
 use Rattle.std.proofs.lemmas.Bool.Decides.{nat_tests}
 use Rattle.std.proofs.lemmas.Bool.{cases_lt, eq-eqb, eqb-true}
 use Rattle.std.proofs.lemmas.List.Elements.{All-nil, All-cons, All-head, All-tail, All-append, All-filter, filter-append, filter_passes}
@@ -14,7 +14,7 @@ use Rattle.tq_cells.specs.Seen.{entries_of}
 use Rattle.tq_queue.specs.Kept.{tickets_put, ticket_put}
 use Rattle.tq_queue.specs.Laws.{Rises}
 use Rattle.tq_queue.specs.Seen.{BookView}
-use Rattle.tq_queue.proofs.Counting.{tally}
+use Rattle.tq_queue.proofs.Laws.{numbers_stand_once}
 use Rattle.relay_run.specs.Relay.{lines_at, items_put, item_put, IsRelay, order_of}
 use Rattle.relay_run.specs.Claim.{own_lines}
 use Rattle.relay_run.specs.Laws.{RelaysAreOrdered}
@@ -171,13 +171,6 @@ count_among q p wider (x ∷ xs) = sum_by-cons (λ y. cond (q y) 1 0) x xs ∙ a
     by true false is wide = absurd (let e : false ≡ true = wide is in cc)
     by false false is wide = omega arith
 
--- each number below the count is counted once among them
-counted_once : (line count : ℕ) → count_by (λ number. number == line) (upto count) ≡ (if nat_lt line count then 1 else 0)
-counted_once line count = tally line 0 count ∙ from_zero line count
-  where
-    from_zero : (t n : ℕ) → ◌≡◌ {A = ℕ} (if nat_le 0 t && nat_lt t (0 + n) then 1 else 0) (if nat_lt t n then 1 else 0)
-    from_zero t n = grind (arith, nat_tests)
-
 -- tickets that are put stand below the count
 module _ (count : ℕ) (log : List (Event ℕ)) (often : (ticket : ℕ) → length (puts ticket log) ≡ (if nat_lt ticket count then 1 else 0)) where
   pub puts_below : (t x : ℕ) → puts t log ≡ x ∷ [] → t < count
@@ -236,7 +229,7 @@ module _ (workers capacity count : ℕ) (book : BookView ℕ) (relay : IsRelay w
       count_among its (λ x. x % workers == worker) wider (order_of count book)
       ∙ ap (count_by its) (own_kept worker)
       ∙ sym (count_among its (λ x. x % workers == worker) wider (upto count))
-      ∙ counted_once line count
+      ∙ numbers_stand_once line count
 
 -- the order of the tickets is one of all lines
 pub relays_are_ordered : RelaysAreOrdered

@@ -1,6 +1,6 @@
 -- A worker's lines stand at equal distances, and all workers' lines are all lines.
 use Rattle.std.proofs.Common.{◌≡◌, ◌≢◌, ℕ, zero, suc, ◌+◌, ◌-◌, ◌*◌, ◌/◌, ◌%◌, ◌<◌, ◌≤◌, List, [], ◌∷◌, ◌++◌, length, map, Bool, cond, inl, inr, refl, sym, ◌∙◌, ap, arith}
-use Rattle.std.specs.Prelude.{◌==◌, All, filter, not, sum_by}
+use Rattle.std.specs.Prelude.{◌==◌, All, filter, not}
 use Rattle.std.proofs.Math.Nat.{div-add-mod, mod-lt, mul_comm, suc-mul}
 use Rattle.std.proofs.lemmas.Nat.{div-mul-add}
 use Rattle.std.proofs.lemmas.Bool.{cases_eq, cases_lt, eq-eqb, ne_eqb}
@@ -10,8 +10,7 @@ use Rattle.std.proofs.lemmas.List.Filters.{length-filter_both}
 use Rattle.fn_model.specs.Order.{sum_below}
 use Rattle.running.specs.Running.{upto, numbers_from}
 use Rattle.running.proofs.Numbers.{numbers_more}
-use Rattle.tq_queue.proofs.Sharing.{shared, sum_below-same}
-use Rattle.tq_queue.proofs.Sound.{ones}
+use Rattle.tq_queue.proofs.Laws.{lengths_are_shared}
 use Rattle.relay_run.specs.Relay.{lines_at}
 use Rattle.relay_run.specs.Work.{line_of, first_lines}
 
@@ -118,10 +117,7 @@ lines_below workers count worker = All-filter (λ line. line % workers == worker
 -- all workers have all lines together
 pub lines_shared : (workers count : ℕ) → 0 < workers → sum_below workers (λ worker. length (lines_at workers count worker)) ≡ count
 lines_shared workers count some_worker =
-    sum_below-same workers (λ worker. length (lines_at workers count worker)) (λ worker. sum_by (λ line. 1) (lines_at workers count worker)) (λ worker l. sym (ones (lines_at workers count worker)))
-    ∙ sym (shared (λ line. line % workers) (λ line. 1) workers (upto count) (all_numbers (λ line. line % workers < workers) 0 count (λ i l. mod-lt i some_worker)))
-    ∙ ones (upto count)
-    ∙ length-numbers_from 0 count
+    sym (lengths_are_shared (λ line. line % workers) workers (upto count) (all_numbers (λ line. line % workers < workers) 0 count (λ i l. mod-lt i some_worker))) ∙ length-numbers_from 0 count
 
 -- a worker has at most all lines
 pub lines_few : (workers count worker : ℕ) → length (lines_at workers count worker) ≤ count

@@ -1,6 +1,6 @@
 -- The number of each line stands at its ticket, once the workers' lines are written there.
 use Rattle.std.proofs.Common.{◌≡◌, ℕ, zero, suc, ◌+◌, ◌<◌, List, [], ◌∷◌, ◌++◌, length, map, get_or, set, inl, inr, refl, sym, ◌∙◌, ap, subst, arith, get_or-set_same, get_or-set_other}
-use Rattle.std.specs.Prelude.{All, sum_by, flat_map}
+use Rattle.std.specs.Prelude.{◌==◌, All, count_by, flat_map, if◌then◌else◌}
 use Rattle.std.proofs.lemmas.Bool.Decides.{nat_tests}
 use Rattle.std.proofs.lemmas.Bool.{cases_eq}
 use Rattle.std.proofs.lemmas.List.{length-set}
@@ -14,8 +14,7 @@ use Rattle.tq_cells.specs.declared.entry.Start.{Start}
 use Rattle.tq_cells.specs.Laws.{IsExact, puts}
 use Rattle.tq_cells.proofs.Tickets.{entries_stand_alone}
 use Rattle.tq_queue.specs.Kept.{tickets_put, ticket_put}
-use Rattle.tq_queue.proofs.Counting.{tick}
-use Rattle.tq_queue.proofs.Parts.{all_between}
+use Rattle.tq_queue.proofs.Laws.{splits_tell}
 use Rattle.relay_run.specs.Relay.{items_put, item_put}
 use Rattle.relay_run.specs.Work.{line_of}
 use Rattle.relay_run.specs.Filling.{filled, all_filled}
@@ -80,17 +79,17 @@ module _ (log : List (Event ℕ)) (count : ℕ) where
         let line : ℕ → ℕ = line_of workers worker in
         all_keep_right (suc worker) rest (filled line 0 own order) u (length-filled line 0 own order ∙ size) s.1 (keeps_right line 0 own order u size s.0 right)
 
-    pub all_make_right : (worker : ℕ) (all : List (List ℕ)) (order : List ℕ) → length order ≡ count → AllStand log count workers worker all → (i t : ℕ) → i < length all → sum_by (tick t) (get_or all i []) ≡ 1 → IsRight log (all_filled workers worker all order) t
+    pub all_make_right : (worker : ℕ) (all : List (List ℕ)) (order : List ℕ) → length order ≡ count → AllStand log count workers worker all → (i t : ℕ) → i < length all → count_by (λ x. x == t) (get_or all i []) ≡ 1 → IsRight log (all_filled workers worker all order) t
     all_make_right worker [] order size s i t inside hit = absurd (omega (arith, inside))
     all_make_right worker (own ∷ rest) order size s zero t inside hit =
         let line : ℕ → ℕ = line_of workers worker in
         all_keep_right (suc worker) rest (filled line 0 own order) t (length-filled line 0 own order ∙ size) s.1 (all_hit (IsRight log (filled line 0 own order)) own t (makes_right line 0 own order size s.0) (omega (arith, hit)))
       where
-        all_hit : (P : ℕ → Type 0) (xs : List ℕ) (t : ℕ) → All P xs → 0 < sum_by (tick t) xs → P t
+        all_hit : (P : ℕ → Type 0) (xs : List ℕ) (t : ℕ) → All P xs → 0 < count_by (λ x. x == t) xs → P t
         all_hit P [] t each some_hit = absurd (omega (arith, some_hit))
         all_hit P (x ∷ xs) t each some_hit = elim (cases_eq x t) [
           | inl same ↦ subst P same (All-head P x xs each)
-          | inr other ↦ let test : tick t x ≡ 0 = grind (arith, nat_tests) in all_hit P xs t (All-tail P x xs each) (omega (arith, some_hit, test, sum_by-cons (tick t) x xs))
+          | inr other ↦ let test : ◌≡◌ {A = ℕ} (if x == t then 1 else 0) 0 = grind (arith, nat_tests) in all_hit P xs t (All-tail P x xs each) (omega (arith, some_hit, test, sum_by-cons (λ y. if y == t then 1 else 0) x xs))
         ]
     all_make_right worker (own ∷ rest) order size s (suc i) t inside hit =
         let line : ℕ → ℕ = line_of workers worker in
@@ -119,7 +118,7 @@ StandsAlone log (entries.Put t x) = puts t log ≡ x ∷ []
 StandsAlone log _ = Unit {0}
 
 pub all_stand_alone : (start : Start) (log : List (Event ℕ)) → IsExact start log → All (λ (e : Event ℕ). StandsAlone log e.entry) log
-all_stand_alone start log exact = all_between (λ (e : Event ℕ). StandsAlone log e.entry) [] log log refl (λ earlier later e is. alone earlier later e.seat e.entry is)
+all_stand_alone start log exact = splits_tell (λ (e : Event ℕ). StandsAlone log e.entry) log (λ earlier later e is. alone earlier later e.seat e.entry is)
   where
     alone : (earlier later : List (Event ℕ)) (seat : ℕ) (entry : Entry ℕ) → (let e : Event ℕ = record { seat = seat; entry = entry } in log ≡ earlier ++ e ∷ later) → StandsAlone log entry
     alone earlier later seat (entries.Hold t) is = tt

@@ -5,7 +5,9 @@ pub mod Told
 pub mod Keeping
 pub mod Dealing
 pub mod Parts
+pub mod Seats
 pub mod Sound
 pub mod Ready
 pub mod Done
+pub mod Totals
 pub mod Laws

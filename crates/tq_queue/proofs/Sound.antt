@@ -7,7 +7,7 @@ use Rattle.std.proofs.lemmas.List.{length-append}
 use Rattle.std.proofs.lemmas.List.Elements.{All-nil, All-cons, All-head, All-tail}
 use Rattle.std.proofs.lemmas.List.Sums.{sum_by-cons, sum_by-append}
 use mathlib.Core.List.{IsPrefix}
-use Rattle.running.specs.Running.{upto, numbers_from}
+use Rattle.running.specs.Running.{numbers_from}
 use Rattle.fn_model.specs.declared.Call.{Call}
 use Rattle.fn_model.specs.Order.{sum_below}
 use Rattle.fn_model.specs.Integer.{after}
@@ -30,7 +30,8 @@ use Rattle.tq_queue.specs.Kept.{own_answers, own_puts, own_takes, tickets_put, t
 use Rattle.tq_queue.specs.Laws.{Rises, IsSound, BooksHaveAnswers}
 use Rattle.tq_queue.proofs.Counting.{IsBounded, balanced, numbered, counted, rising, tick, tally}
 use Rattle.tq_queue.proofs.Keeping.{sum-replicate}
-use Rattle.tq_queue.proofs.Parts.{there, below, all_at, get-map, all_between}
+use Rattle.tq_queue.proofs.Parts.{all_at, get-map}
+use Rattle.tq_queue.proofs.Seats.{seats_have_passes, entries_have_seats, entries_are_of_passes, none_beyond}
 use Rattle.tq_queue.proofs.Sharing.{shared, gathered, sum_below-same}
 use Rattle.tq_queue.proofs.Told.{answers_kept}
 
@@ -164,17 +165,8 @@ module _ {T : Type 0} where
       let w : Event T → ℕ = λ e. sum_by (tick t) (ticket_taken e.entry) in
       takes_sum t log ∙ shared (λ (e : Event T). e.seat) w n log range ∙ sum_below-same n (λ p. sum_by w (entries_of p log)) (λ p. sum_by (tick t) (tickets_taken (entries_of p log))) (λ p l. tickets_taken_sum t (entries_of p log))
 
-  -- a seat that there isn't has no entries
-  pub none_by : (n p : ℕ) (log : List (Event T)) → All (λ (e : Event T). e.seat < n) log → n ≤ p → entries_of p log ≡ []
-  none_by n p [] range beyond = refl
-  none_by n p (e ∷ log) range beyond =
-      let P : Event T → Type 0 = λ x. x.seat < n in
-      let here : e.seat < n = All-head P e log range in
-      let other : (e.seat == p) ≡ false = grind (arith, nat_tests) in
-      ap (λ (b : Bool). cond b (e ∷ entries_of p log) (entries_of p log)) other ∙ none_by n p log (All-tail P e log range) beyond
-
 -- two lists at the numbers below zero
-from_zero : (t n : ℕ) → ◌≡◌ {A = ℕ} (if nat_le 0 t && nat_lt t (0 + n) then 1 else 0) (if nat_lt t n then 1 else 0)
+pub from_zero : (t n : ℕ) → ◌≡◌ {A = ℕ} (if nat_le 0 t && nat_lt t (0 + n) then 1 else 0) (if nat_lt t n then 1 else 0)
 from_zero t n = grind (arith, nat_tests)
 
 module _ {T : Type 0} (q : QueueView) (ps : List (CallerView T)) (b : BookView T) (is_open : IsOpen q) (all : AreAll q ps) (together : All (IsOf q) ps) (kept : All Keeps ps) (closed : IsClosed q ps b) where
@@ -184,35 +176,18 @@ module _ {T : Type 0} (q : QueueView) (ps : List (CallerView T)) (b : BookView T
   abbrev log : List (Event T)
   log = b.cells.log
 
-  abbrev number : CallerView T → ℕ
-  number p = p.seat.number
-
   seats_below : All (λ (e : Event T). e.seat < n) log
-  seats_below =
-      all_between (λ (e : Event T). e.seat < n) [] log log refl (λ earlier later e is.
-      let by = closed.cells.only earlier later e is in
-      let seat_below : by.1.number < n = seat_at by.0 by.1 by.2 in
-      omega (arith, by.3, seat_below))
-    where
-      numbered_seats : map (λ (s : cells.SeatView T). s.number) (map (λ (p : CallerView T). p.seat) ps) ≡ upto n
-      numbered_seats = twice ps ∙ all
-        where
-          twice : (xs : List (CallerView T)) → map (λ (s : cells.SeatView T). s.number) (map (λ (p : CallerView T). p.seat) xs) ≡ map (λ (p : CallerView T). p.seat.number) xs
-          twice [] = refl
-          twice (x ∷ xs) = ap (λ (ns : List ℕ). x.seat.number ∷ ns) (twice xs)
-
-      seat_at : (k : ℕ) (s : cells.SeatView T) → slice_get (map (λ (p : CallerView T). p.seat) ps) k ≡ Some s → s.number < n
-      seat_at k s here = below (λ (x : cells.SeatView T). x.number) n (map (λ (p : CallerView T). p.seat) ps) numbered_seats k s here
+  seats_below = entries_have_seats q ps all b closed
 
   module _ (p : ℕ) (range : p < n) where
     abbrev this : CallerView T
-    this = (there number n ps all p range).it
+    this = (seats_have_passes q ps all p range).pass
 
     at : slice_get ps p ≡ Some this
-    at = (there number n ps all p range).is
+    at = (seats_have_passes q ps all p range).at
 
     is_p : this.seat.number ≡ p
-    is_p = (there number n ps all p range).by
+    is_p = (seats_have_passes q ps all p range).number
 
     keeps : Keeps this
     keeps = all_at Keeps ps p this kept at
@@ -221,7 +196,7 @@ module _ {T : Type 0} (q : QueueView) (ps : List (CallerView T)) (b : BookView T
     of = all_at (IsOf q) ps p this together at
 
     entries_same : entries_of p log ≡ entries_of this.seat.number this.seat.log
-    entries_same = ap (λ (k : ℕ). entries_of k log) (sym is_p) ∙ (closed.cells.each p this.seat (get-map (λ (x : CallerView T). x.seat) ps p this at)).own
+    entries_same = entries_are_of_passes q ps all b closed p this at is_p
 
     puts_same : tickets_put (entries_of p log) ≡ own_puts this.seat
     puts_same = ap tickets_put entries_same
@@ -318,7 +293,7 @@ module _ {T : Type 0} (q : QueueView) (ps : List (CallerView T)) (b : BookView T
   head_ones = all_ones n (λ p. tickets_taken (entries_of p log)) (book_answers b.head) head_range head_each
 
   no_entries : (p : ℕ) → n ≤ p → entries_of p log ≡ []
-  no_entries p beyond = none_by n p log seats_below beyond
+  no_entries p beyond = none_beyond n p log seats_below beyond
 
   puts_rise : (p : ℕ) → Rises 0 (tickets_put (entries_of p log))
   puts_rise p = elim (cases_lt p n) [
