@@ -1,6 +1,6 @@
 -- What a report tells of each tenant of its trace.
 --     marks_at tenant lines      the tenant's rows, each with what it met and left
---     RowsAreMarked      each row is in the marks of one tenant
+--     RowsAreMarked      the marks of all tenants are as many as the rows
 --     heading_at trace answers finals tenant      the numbers of the tenant's last line
 --     HeadingsAreTold      these numbers are those that the report ends with
 use Rattle.std.specs.Prelude.{◌≡◌, ℕ, ◌+◌, ◌-◌, ◌^◌, ◌<◌, ◌==◌, List, [], ◌++◌, length, map, slice_index, slice_index_or}
@@ -39,7 +39,7 @@ marks_at tenant lines = map mark_of (filter (λ (row, answer). row.tenant == ten
 abbrev pub all_marks : ℕ → List (Row × Moved) → List (List Mark)
 all_marks tenants lines = map (λ tenant. marks_at tenant lines) (range_with_len 0 tenants)
 
--- each row is in the marks of one tenant
+-- the marks of all tenants are as many as the rows
 abbrev pub RowsAreMarked : Type 0
 RowsAreMarked = (tenants : ℕ) (lines : List (Row × Moved)) → All (λ (row, answer). row.tenant < tenants) lines → sum_by length (all_marks tenants lines) ≡ length lines
 
