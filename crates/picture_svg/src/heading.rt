@@ -9,8 +9,25 @@ use std::alloc::AllocError;
 
 /// The style: the colours for light and dark, and the hues of the workers, which are those of Okabe
 /// and Ito, with a grey for black.
-pub const STYLE: &[u8] =
-    b"text{font:24px sans-serif;fill:#222}\n.name{font-size:34px;font-weight:bold}\n.end{text-anchor:end}\n.caption{text-anchor:middle;fill:#555}\n.backdrop{fill:#fff}\n.axis{stroke:#777;stroke-width:2}\n.span{fill:#666}\n.track{fill:#eee}\n.w0{fill:#e69f00}\n.w1{fill:#56b4e9}\n.w2{fill:#009e73}\n.w3{fill:#f0e442}\n.w4{fill:#0072b2}\n.w5{fill:#d55e00}\n.w6{fill:#cc79a7}\n.w7{fill:#999}\n@media (prefers-color-scheme:dark){text{fill:#eee}.caption{fill:#bbb}.backdrop{fill:#161616}.axis{stroke:#999}.span{fill:#bbb}.track{fill:#333}}\n";
+pub const STYLE: &[u8] = b"text{font:24px sans-serif;fill:#222}\n\
+    .name{font-size:34px;font-weight:bold}\n\
+    .end{text-anchor:end}\n\
+    .caption{text-anchor:middle;fill:#555}\n\
+    .backdrop{fill:#fff}\n\
+    .axis{stroke:#777;stroke-width:2}\n\
+    .span{fill:#666}\n\
+    .track{fill:#eee}\n\
+    .w0{fill:#e69f00}\n\
+    .w1{fill:#56b4e9}\n\
+    .w2{fill:#009e73}\n\
+    .w3{fill:#f0e442}\n\
+    .w4{fill:#0072b2}\n\
+    .w5{fill:#d55e00}\n\
+    .w6{fill:#cc79a7}\n\
+    .w7{fill:#999}\n\
+    @media (prefers-color-scheme:dark){\
+    text{fill:#eee}.caption{fill:#bbb}.backdrop{fill:#161616}\
+    .axis{stroke:#999}.span{fill:#bbb}.track{fill:#333}}\n";
 
 /// Appends a number of rows.
 #[tactic(auto, unfolding(crate::specs::Svg::rows_text))]
