@@ -1,13 +1,14 @@
 -- What a report tells of each tenant of its trace.
 --     marks_at tenant lines      the tenant's rows, each with what it met and left
+--     RowsAreMarked      the marks of all tenants are as many as the rows
 --     heading_at trace answers finals tenant      the numbers of the tenant's last line
 --     HeadingsAreTold      these numbers are those that the report ends with
-use Rattle.std.specs.Prelude.{◌≡◌, ℕ, ◌+◌, ◌-◌, ◌^◌, ◌<◌, ◌==◌, List, [], ◌++◌, length, map, codes, decimal, slice_index, slice_index_or}
-use Rattle.std.specs.List.{filter, flat_map, range_with_len, zip}
+use Rattle.std.specs.Prelude.{◌≡◌, ℕ, ◌+◌, ◌-◌, ◌^◌, ◌<◌, ◌==◌, List, [], ◌++◌, length, map, slice_index, slice_index_or}
+use Rattle.std.specs.List.{All, filter, flat_map, range_with_len, sum_by, zip}
 use Rattle.picture_marks.specs.declared.marks.Heading.{Heading}
 use Rattle.picture_marks.specs.declared.marks.Mark.{Mark}
 use Rattle.quota_pool.specs.declared.moved.Moved.{Moved}
-use Rattle.replay_report.specs.Report.{HasAnswers, added_to, answered, report_text, segments_text, taken_from, values_from}
+use Rattle.replay_report.specs.Report.{HasAnswers, added_to, answered, report_text, segments_text, taken_from, total_text, values_from}
 use Rattle.trace_text.specs.Trace.{Content}
 use Rattle.trace_text.specs.declared.traces.Op.{Op}
 use Rattle.trace_text.specs.declared.traces.Op.TheVariants.{Add, Take, Direct, Read}
@@ -38,6 +39,10 @@ marks_at tenant lines = map mark_of (filter (λ (row, answer). row.tenant == ten
 abbrev pub all_marks : ℕ → List (Row × Moved) → List (List Mark)
 all_marks tenants lines = map (λ tenant. marks_at tenant lines) (range_with_len 0 tenants)
 
+-- the marks of all tenants are as many as the rows
+abbrev pub RowsAreMarked : Type 0
+RowsAreMarked = (tenants : ℕ) (lines : List (Row × Moved)) → All (λ (row, answer). row.tenant < tenants) lines → sum_by length (all_marks tenants lines) ≡ length lines
+
 -- the opening of a tenant
 abbrev pub opening_at : List Tenant → ℕ → ℕ
 opening_at tenants tenant = (slice_index_or tenants tenant (record { name = []; opening = 0; cap = 0 })).opening
@@ -58,8 +63,7 @@ all_headings trace answers finals = map (heading_at trace answers finals) (range
 
 -- the line of a tenant with a heading
 abbrev pub heading_line : Tenant × Heading → List ℕ
-heading_line (tenant, heading) =
-    codes "total," ++ tenant.name ++ codes "," ++ decimal heading.opening ++ codes "," ++ decimal heading.added ++ codes "," ++ decimal heading.taken ++ codes "," ++ decimal heading.last ++ codes "\n"
+heading_line (tenant, heading) = total_text (record tenant { opening = heading.opening }) heading.added heading.taken heading.last
 
 -- a report ends with the lines of the headings
 abbrev pub HeadingsAreTold : Type 0

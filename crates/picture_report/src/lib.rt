@@ -7,7 +7,7 @@ mod naming;
 mod reading;
 
 pub use headings::{heading_of, headings_laws, headings_of};
-pub use marking::{marks_by_tenant, marks_of};
+pub use marking::{marks_by_tenant, marks_laws, marks_of};
 pub use naming::tenant_named;
 pub use picture_marks::{Heading, Mark};
 pub use reading::{Report, ReportFault, read_report};

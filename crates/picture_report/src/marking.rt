@@ -3,7 +3,7 @@ ghost use Rattle.std.specs.Prelude.{◌≡◌, ◌<◌, ◌^◌, IfOk, length, m
 ghost use Rattle.std.specs.List.{All, zip};
 ghost use Rattle.trace_text.specs.Trace.{content};
 ghost use Rattle.replay_report.specs.Report.{answered};
-ghost use Rattle.picture_report.specs.Told.{IsSmall, all_marks, left_by, mark_of, marks_at};
+ghost use Rattle.picture_report.specs.Told.{IsSmall, RowsAreMarked, all_marks, left_by, mark_of, marks_at};
 
 use picture_marks::Mark;
 use replay_report::{Moved, Trace};
@@ -46,6 +46,11 @@ pub fn marks_by_tenant(
     push_marks(&mut lists, &trace.rows, answers)?;
     Ok(lists)
 }
+
+/// The marks of all tenants are as many as the rows.
+pub fn marks_laws()
+    ensures { RowsAreMarked }
+{}
 
 // So many empty lists.
 fn no_marks(alloc: Global, tenants: usize) -> Result<Vec<Vec<Mark>>, AllocError>

@@ -79,3 +79,23 @@ fn another_text_is_refused(rt: HostRuntime) -> Result<(), Fail> {
     assert_eq!(rt; fault(&rt, b"")?, Some(ReportFault::NotOfTrace));
     Ok(())
 }
+
+const SETTLED_TRACE: &[u8] =
+    b"worker,op,tenant,amount,cap\n0,open,disk,8,10\n0,add,disk,5,0\n0,settle,-,0,0\n0,take,disk,4,0\n0,read,disk,0,0\n";
+
+const SETTLED_REPORT: &[u8] =
+    b"row,2,8,2\nsettled,3,disk,10\nrow,4,10,4\nrow,5,6,0\ntotal,disk,8,2,4,6\n";
+
+#[test]
+fn a_report_with_a_cut_is_read(rt: HostRuntime) -> Result<(), Fail> {
+    let trace = read_trace(rt.alloc(), 1, SETTLED_TRACE)?;
+    let report = read_report(rt.alloc(), &trace, SETTLED_REPORT)?;
+    assert_eq!(rt; report.finals.as_slice(), [10, 6].as_slice());
+    let marks = marks_of(rt.alloc(), &trace, &report.answers, 0)?;
+    let met = [mark(2, 8, 10), mark(4, 10, 6), mark(5, 6, 6)];
+    assert_eq!(rt; marks.as_slice(), met.as_slice());
+    for heading in headings_of(rt.alloc(), &trace, &report)? {
+        assert_eq!(rt; heading.last, 6);
+    }
+    Ok(())
+}
