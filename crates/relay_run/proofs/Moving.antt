@@ -113,7 +113,7 @@ pub is_ready : (q : QueueView) (number : ℕ) (desk : Desk) (worker : Worker) �
 is_ready q number desk worker there same is owed few = record {
   desk = desk;
   there = there;
-  together = subst (IsOf q) (sym is) ((refl, refl), (refl, refl), (refl, refl), (refl, refl), (refl, refl));
+  together = subst (IsOf q) (sym is) ((refl, refl), ((refl, refl), (refl, refl), (refl, refl), (refl, refl)));
   number = ap (λ (p : CallerView ℕ). p.seat.number) is ∙ sym same;
   fresh = ap (λ (p : CallerView ℕ). p.seat.log) is;
   owed = owed;

@@ -79,12 +79,12 @@ module _ (q : QueueView) (ps : List (CallerView ℕ)) (book : BookView ℕ) (all
       | inr beyond ↦ ap (λ (es : List (Event ℕ)). length (tickets_taken es)) (none_beyond n seat log seats_below beyond) ∙ ap length (sym (no_lines n count seat some_seat beyond))
     ]
 
-    all_put : value_of book.tail ≡ count
+    all_put : value_of book.funnels.tail ≡ count
     all_put =
         tail_counts_puts n book seats_below sound (λ seat. length (lines_at n count seat)) (λ seat range. as_many_items (entries_of seat log) ∙ ap length (lines_put seat))
         ∙ lines_shared n count some_seat
 
-    all_taken : value_of book.head ≡ count
+    all_taken : value_of book.funnels.head ≡ count
     all_taken = head_counts_takes n book seats_below sound (λ seat. length (lines_at n count seat)) (λ seat range. taken_even seat) ∙ lines_shared n count some_seat
 
     pub is_relay : (workers capacity : ℕ) → q.cells.start ≡ record { capacity = capacity; seats = workers } → IsRelay workers capacity count book

@@ -7,14 +7,17 @@ use Rattle.running.specs.Running.{upto, numbers_from}
 use Rattle.fn_model.specs.declared.Call.{Call}
 use Rattle.fn_core.specs.State.{State, opened, history_in}
 use Rattle.fn_core.specs.Calls.{calls_in, IsIdle}
-use Rattle.fn_table.specs.Seen.{TableView, PassView, glances}
+use Rattle.fn_table.specs.Seen.{TableView, PassView}
 use Rattle.fn_table.specs.Seen as funnels
 use Rattle.fn_table.proofs.Glances.{glances_run, glances_idle}
 use Rattle.tq_cells.specs.declared.entry.Start as cell
 use Rattle.tq_cells.specs.Seen as seats
 use Rattle.tq_queue.specs.Answers.{Answered, answered, answers_of, raised, lowered, AddsOne, AreTickets}
-use Rattle.tq_queue.specs.Seen.{QueueView, CallerView, Begins, AllBegin, OpensWith, fresh, fresh_passes, IsWhole, allowance, left}
+use Rattle.tq_queue.specs.declared.fours.Four.{Four}
+use Rattle.tq_queue.specs.Fours.{Which, Tail, Head, Free, Items, pick, AllFour, map_four}
+use Rattle.tq_queue.specs.Seen.{QueueView, CallerView, Begins, AllBegin, OpensWith, first_of, fresh, fresh_passes, IsWhole, allowance, left}
 use Rattle.tq_queue.specs.Kept.{own_answers, AreSizes, Keeps}
+use Rattle.tq_queue.proofs.Each.{each_of, all_of, same_four}
 
 -- the next of the numbers that are left
 numbers_next : (k n : ℕ) → k < n → numbers_from k (n - k) ≡ k ∷ numbers_from (k + 1) (n - (k + 1))
@@ -50,6 +53,24 @@ module _ {X : Type 0} (make : ℕ → X) (k n : ℕ) (items rest : List X) (len 
     len = omega (arith, is.len, fewer);
   }
 
+-- .. for each of four
+module _ (q : QueueView) (k n : ℕ) (items rest : Which → List PassView) (len less : Which → ℕ) (passes : Four PassView) (range : k < n) (are : AllFour (λ w. IsLeft (funnels.fresh (pick w q.funnels)) k n (items w) (len w)))
+    (next : AllFour (λ w. items w ≡ pick w passes ∷ rest w)) (fewer : AllFour (λ w. less w + 1 ≡ len w)) where
+  left_of_each : (w : Which) → IsLeft (funnels.fresh (pick w q.funnels)) k n (items w) (len w)
+  left_of_each = each_of (λ w. IsLeft (funnels.fresh (pick w q.funnels)) k n (items w) (len w)) are
+
+  next_each : (w : Which) → items w ≡ pick w passes ∷ rest w
+  next_each = each_of (λ w. items w ≡ pick w passes ∷ rest w) next
+
+  fewer_each : (w : Which) → less w + 1 ≡ len w
+  fewer_each = each_of (λ w. less w + 1 ≡ len w) fewer
+
+  pub each_dealt : AllFour (λ w. pick w passes ≡ funnels.fresh (pick w q.funnels) k)
+  each_dealt = all_of (λ w. pick w passes ≡ funnels.fresh (pick w q.funnels) k) (λ w. dealt (funnels.fresh (pick w q.funnels)) k n (items w) (rest w) (len w) (less w) (pick w passes) range (left_of_each w) (next_each w) (fewer_each w))
+
+  pub each_left : AllFour (λ w. IsLeft (funnels.fresh (pick w q.funnels)) (k + 1) n (rest w) (less w))
+  each_left = all_of (λ w. IsLeft (funnels.fresh (pick w q.funnels)) (k + 1) n (rest w) (less w)) (λ w. left_next (funnels.fresh (pick w q.funnels)) k n (items w) (rest w) (len w) (less w) (pick w passes) range (left_of_each w) (next_each w) (fewer_each w))
+
 pub all_first : {X : Type 0} (make : ℕ → X) (n m : ℕ) (all : List X) → m ≡ n → all ≡ [] → all ++ map make (numbers_from 0 (n - 0)) ≡ map make (upto m)
 all_first make n m all same none = let whole : n - 0 ≡ m = omega (arith, same) in ap (λ xs. xs ++ map make (numbers_from 0 (n - 0))) none ∙ ap (λ (k : ℕ). map make (numbers_from 0 k)) whole
 
@@ -82,37 +103,47 @@ kept_fresh q count opens sizes number =
     record {
       sizes = sizes;
       numbers = (refl, refl, refl, refl);
-      begin = subst (λ (n : ℕ). AllBegin q.cells.start.capacity n q.tail.start q.head.start q.free.start q.items.start) same opens.funnels;
-      idle = (idle q.tail, idle q.head, idle q.free, idle q.items);
-      tail = no_tickets (own_answers (funnels.fresh q.tail number)) (no_answers q.tail number);
-      head = no_tickets (own_answers (funnels.fresh q.head number)) (no_answers q.head number);
-      free = (ap lowered (no_answers q.free number), ap raised (no_answers q.free number));
-      items = (ap raised (no_answers q.items number), ap lowered (no_answers q.items number));
+      begin = subst (λ (n : ℕ). AllBegin q.cells.start.capacity n (λ w. (pick w q.funnels).start)) same opens.funnels;
+      idle = (idle q.funnels.tail, idle q.funnels.head, idle q.funnels.free, idle q.funnels.items);
+      tail = no_tickets (own_answers (funnels.fresh q.funnels.tail number)) (no_answers q.funnels.tail number);
+      head = no_tickets (own_answers (funnels.fresh q.funnels.head number)) (no_answers q.funnels.head number);
+      free = (ap lowered (no_answers q.funnels.free number), ap raised (no_answers q.funnels.free number));
+      items = (ap raised (no_answers q.funnels.items number), ap lowered (no_answers q.funnels.items number));
     }
 
 -- .. also where its parts are given one by one
-pub kept_dealt : {T : Type 0} (q : QueueView) (count : ℕ) → OpensWith q q.cells.start.capacity count → AreSizes q.cells.start → (number : ℕ) → (seat : seats.SeatView T) (tail head free items : PassView)
-    → seat ≡ seats.fresh q.cells number → tail ≡ funnels.fresh q.tail number → head ≡ funnels.fresh q.head number → free ≡ funnels.fresh q.free number → items ≡ funnels.fresh q.items number
-    → (let p : CallerView T = record { seat = seat; tail = tail; head = head; free = free; items = items } in (p ≡ fresh q number) × Keeps p)
-kept_dealt {T} q count opens sizes number seat tail head free items s t h f i =
-    let p : CallerView T = record { seat = seat; tail = tail; head = head; free = free; items = items } in
-    let is : p ≡ fresh q number = λ j. record { seat = s j; tail = t j; head = h j; free = f j; items = i j } in
+pub kept_dealt : {T : Type 0} (q : QueueView) (count : ℕ) → OpensWith q q.cells.start.capacity count → AreSizes q.cells.start → (number : ℕ) → (seat : seats.SeatView T) (passes : Four PassView)
+    → seat ≡ seats.fresh q.cells number → AllFour (λ w. pick w passes ≡ funnels.fresh (pick w q.funnels) number)
+    → (let p : CallerView T = record { seat = seat; passes = passes } in (p ≡ fresh q number) × Keeps p)
+kept_dealt {T} q count opens sizes number seat passes s each =
+    let p : CallerView T = record { seat = seat; passes = passes } in
+    let all : passes ≡ map_four (λ t. funnels.fresh t number) q.funnels = same_four passes (map_four (λ t. funnels.fresh t number) q.funnels) each in
+    let is : p ≡ fresh q number = λ j. record { seat = s j; passes = all j } in
     (is, subst Keeps (sym is) (kept_fresh q count opens sizes number))
 
 -- the passes have their whole allowances
 whole_one : (t : TableView) (n first k : ℕ) → Begins n first t.start → k < n → funnels.IsWhole (funnels.fresh t k) → left (funnels.fresh t k) ≡ allowance
 whole_one t n first k b range whole = whole.1 ∙ ap (λ (xs : List ℕ). get_or xs k 0) b.allowances ∙ get_or-replicate n k allowance 0 range
 
-module _ {T : Type 0} (q : QueueView) (capacity n : ℕ) (b : AllBegin capacity n q.tail.start q.head.start q.free.start q.items.start) where
-  whole_from : (k m : ℕ) → k + m ≡ n → All funnels.IsWhole (map (funnels.fresh q.tail) (numbers_from k m)) → All funnels.IsWhole (map (funnels.fresh q.head) (numbers_from k m)) → All funnels.IsWhole (map (funnels.fresh q.free) (numbers_from k m)) → All funnels.IsWhole (map (funnels.fresh q.items) (numbers_from k m))
-      → All IsWhole (map (fresh {T = T} q) (numbers_from k m))
-  whole_from k zero size t h f i = All-nil IsWhole
-  whole_from k (suc m) size t h f i =
-      let W : PassView → Type 0 = funnels.IsWhole in
-      let rest : TableView → List PassView = λ v. map (funnels.fresh v) (numbers_from (suc k) m) in
+-- the passes of each funnel from a number on have their whole allowances
+abbrev AreWhole : QueueView → ℕ → ℕ → Which → Type 0
+AreWhole q k m w = All funnels.IsWhole (map (funnels.fresh (pick w q.funnels)) (numbers_from k m))
+
+module _ (q : QueueView) (capacity n : ℕ) (b : AllBegin capacity n (λ w. (pick w q.funnels).start)) where
+  begin_of : (w : Which) → Begins n (first_of capacity w) (pick w q.funnels).start
+  begin_of = each_of (λ w. Begins n (first_of capacity w) (pick w q.funnels).start) b
+
+  one_whole : (k m : ℕ) → k < n → ((w : Which) → AreWhole q k (suc m) w) → (w : Which) → left (funnels.fresh (pick w q.funnels) k) ≡ allowance
+  one_whole k m range all w =
+      whole_one (pick w q.funnels) n (first_of capacity w) k (begin_of w) range (All-head funnels.IsWhole (funnels.fresh (pick w q.funnels) k) (map (funnels.fresh (pick w q.funnels)) (numbers_from (suc k) m)) (all w))
+
+  whole_from : {T : Type 0} (k m : ℕ) → k + m ≡ n → ((w : Which) → AreWhole q k m w) → All IsWhole (map (fresh {T = T} q) (numbers_from k m))
+  whole_from k zero size all = All-nil IsWhole
+  whole_from k (suc m) size all =
+      let here : (w : Which) → left (funnels.fresh (pick w q.funnels) k) ≡ allowance = one_whole k m (omega arith) all in
       All-cons IsWhole (fresh q k) (map (fresh q) (numbers_from (suc k) m))
-      (whole_one q.tail n 0 k b.tail (omega arith) (All-head W (funnels.fresh q.tail k) (rest q.tail) t), whole_one q.head n 0 k b.head (omega arith) (All-head W (funnels.fresh q.head k) (rest q.head) h), whole_one q.free n capacity k b.free (omega arith) (All-head W (funnels.fresh q.free k) (rest q.free) f), whole_one q.items n 0 k b.items (omega arith) (All-head W (funnels.fresh q.items k) (rest q.items) i))
-      (whole_from (suc k) m (omega arith) (All-tail W (funnels.fresh q.tail k) (rest q.tail) t) (All-tail W (funnels.fresh q.head k) (rest q.head) h) (All-tail W (funnels.fresh q.free k) (rest q.free) f) (All-tail W (funnels.fresh q.items k) (rest q.items) i))
+      (here Tail, here Head, here Free, here Items)
+      (whole_from (suc k) m (omega arith) (λ w. All-tail funnels.IsWhole (funnels.fresh (pick w q.funnels) k) (map (funnels.fresh (pick w q.funnels)) (numbers_from (suc k) m)) (all w)))
 
 -- how many passes a funnel has
 pub passes_of : (t : TableView) (n first : ℕ) → Begins n first t.start → t.start.shape.passes ≡ n
@@ -122,11 +153,12 @@ pub seats_are : (q : QueueView) (capacity n : ℕ) → OpensWith q capacity n �
 seats_are q capacity n opens = ap (λ (s : cell.Start). s.seats) opens.cells
 
 -- what opens with whole passes has whole passes
-pub whole_all : {T : Type 0} (q : QueueView) (capacity count : ℕ) → OpensWith q capacity count → (tails heads frees items : List PassView) → funnels.AreOpened q.tail tails → funnels.AreOpened q.head heads → funnels.AreOpened q.free frees → funnels.AreOpened q.items items
-    → (all : List (CallerView T)) → all ≡ fresh_passes q → All IsWhole all
-whole_all {T} q capacity count opens tails heads frees items t h f i all is =
+pub whole_all : {T : Type 0} (q : QueueView) (capacity count : ℕ) → OpensWith q capacity count → (parts : Which → List PassView) → AllFour (λ w. funnels.AreOpened (pick w q.funnels) (parts w)) → (all : List (CallerView T)) → all ≡ fresh_passes q → All IsWhole all
+whole_all {T} q capacity count opens parts opened_all all is =
     let W : PassView → Type 0 = funnels.IsWhole in
-    let here : (v : TableView) (first : ℕ) (ps : List PassView) → Begins count first v.start → funnels.AreOpened v ps → All W (map (funnels.fresh v) (numbers_from 0 count)) =
-    λ v first ps b o. subst (λ (n : ℕ). All W (map (funnels.fresh v) (upto n))) (passes_of v count first b) (subst (All W) o.fresh o.idle) in
-    let whole : All IsWhole (map (fresh {T = T} q) (numbers_from 0 count)) = whole_from q capacity count opens.funnels 0 count (omega arith) (here q.tail 0 tails opens.funnels.tail t) (here q.head 0 heads opens.funnels.head h) (here q.free capacity frees opens.funnels.free f) (here q.items 0 items opens.funnels.items i) in
+    let begins : (w : Which) → Begins count (first_of capacity w) (pick w q.funnels).start = each_of (λ w. Begins count (first_of capacity w) (pick w q.funnels).start) opens.funnels in
+    let here : (w : Which) → AreWhole q 0 count w =
+    λ w. let o : funnels.AreOpened (pick w q.funnels) (parts w) = each_of (λ v. funnels.AreOpened (pick v q.funnels) (parts v)) opened_all w in
+    subst (λ (n : ℕ). All W (map (funnels.fresh (pick w q.funnels)) (upto n))) (passes_of (pick w q.funnels) count (first_of capacity w) (begins w)) (subst (All W) o.fresh o.idle) in
+    let whole : All IsWhole (map (fresh {T = T} q) (numbers_from 0 count)) = whole_from q capacity count opens.funnels 0 count (omega arith) here in
     subst (All IsWhole) (sym (is ∙ ap (λ (s : cell.Start). map (fresh {T = T} q) (upto s.seats)) opens.cells)) whole

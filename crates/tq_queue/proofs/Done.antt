@@ -110,14 +110,14 @@ module _ {T : Type 0} where
       }
 
   -- the three calls of a put, and what its seat has done
-  pub made_put : (p q : CallerView T) (item : T) (room ticket more : ℕ) → Made p.free Sub 1 room q.free → (room ≡ 0 → ⊥) → Made p.tail Add 1 ticket q.tail → Made p.items Add 1 more q.items → q.head ≡ p.head → IsSame p.seat q.seat → Placed p.seat ticket item q.seat → MadePut p ticket item q
+  pub made_put : (p q : CallerView T) (item : T) (room ticket more : ℕ) → Made p.passes.free Sub 1 room q.passes.free → (room ≡ 0 → ⊥) → Made p.passes.tail Add 1 ticket q.passes.tail → Made p.passes.items Add 1 more q.passes.items → q.passes.head ≡ p.passes.head → IsSame p.seat q.seat → Placed p.seat ticket item q.seat → MadePut p ticket item q
   made_put p q item room ticket more free some tail items head same seat = (
     record { there = room; some = omega (arith, some); taken = free; drawn = tail; before = more; given = items; kept = head },
     placed_done p.seat ticket item q.seat same seat,
   )
 
   -- .. and of a take
-  pub made_take : (p q : CallerView T) (item : T) (there ticket more : ℕ) → Made p.items Sub 1 there q.items → (there ≡ 0 → ⊥) → Made p.head Add 1 ticket q.head → Made p.free Add 1 more q.free → q.tail ≡ p.tail → IsSame p.seat q.seat → Taken p.seat ticket item q.seat → MadeTake p ticket item q
+  pub made_take : (p q : CallerView T) (item : T) (there ticket more : ℕ) → Made p.passes.items Sub 1 there q.passes.items → (there ≡ 0 → ⊥) → Made p.passes.head Add 1 ticket q.passes.head → Made p.passes.free Add 1 more q.passes.free → q.passes.tail ≡ p.passes.tail → IsSame p.seat q.seat → Taken p.seat ticket item q.seat → MadeTake p ticket item q
   made_take p q item there ticket more items some head free tail same seat = (
     record { there = there; some = omega (arith, some); taken = items; drawn = head; before = more; given = free; kept = tail },
     taken_done p.seat ticket item q.seat same seat,

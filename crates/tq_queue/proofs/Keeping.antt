@@ -12,8 +12,10 @@ use Rattle.fn_core.specs.Calls.{IsIdle}
 use Rattle.fn_table.specs.Claims.{next_of, Made}
 use Rattle.fn_table.specs.Seen.{PassView}
 use Rattle.tq_cells.specs.declared.entry.Start as cell
+use Rattle.tq_cells.specs.Seen.{IsSame}
 use Rattle.tq_queue.specs.Answers.{Answered, raised, lowered, raised_by, lowered_by, AddsOne, AreTickets}
-use Rattle.tq_queue.specs.Seen.{CallerView, AllBegin, Begins, allowance}
+use Rattle.tq_queue.specs.Fours.{Which, pick, AllFour}
+use Rattle.tq_queue.specs.Seen.{CallerView, AllBegin, Begins, first_of, allowance, with_free, with_items}
 use Rattle.fn_funnel.specs.declared.waiting.Added.{Added}
 use Rattle.fn_funnel.specs.Waiting.{Waited}
 use Rattle.tq_cells.specs.declared.entry.Entry.TheVariants as entries
@@ -22,6 +24,7 @@ use Rattle.tq_queue.specs.Moves.{HasPut, HasTaken, Placed, Taken}
 use Rattle.tq_queue.specs.Kept.{own_answers, own_puts, own_takes, AreSizes, Keeps}
 use Rattle.tq_queue.proofs.Told.{calls_are_answered}
 use Rattle.tq_queue.proofs.Done.{done_puts, done_takes}
+use Rattle.tq_queue.proofs.Each.{each_of, all_of}
 
 pub sum-replicate : (n k : ℕ) → sum (replicate n k) ≡ n * k
 sum-replicate n k = sum_by-replicate (λ (x : ℕ). x) n k
@@ -63,104 +66,105 @@ tickets_more p ticket q tickets g are = record {
 longer : (l : List ℕ) (x : ℕ) → length (l ++ x ∷ []) ≡ length l + 1
 longer l x = length-append l (x ∷ [])
 
-module _ {T : Type 0} (p q : CallerView T) (k : Keeps p) where
-  sizes : q.seat.start ≡ p.seat.start → AreSizes q.seat.start
-  sizes start = subst AreSizes (sym start) k.sizes
+-- what stays of a pass whatever it calls
+record Goes (p q : PassView) : Type 0 where
+  number : q.number ≡ p.number
+  start : q.seen.start ≡ p.seen.start
+  idle : IsIdle p.seen p.number → IsIdle q.seen q.number
 
-  begin : q.seat.start ≡ p.seat.start → q.tail.seen.start ≡ p.tail.seen.start → q.head.seen.start ≡ p.head.seen.start → q.free.seen.start ≡ p.free.seen.start → q.items.seen.start ≡ p.items.seen.start
-      → AllBegin q.seat.start.capacity q.seat.start.seats q.tail.seen.start q.head.seen.start q.free.seen.start q.items.seen.start
-  begin start t h f i = subst (λ (s : cell.Start). AllBegin s.capacity s.seats q.tail.seen.start q.head.seen.start q.free.seen.start q.items.seen.start) (sym start) (record {
-    tail = subst (Begins p.seat.start.seats 0) (sym t) k.begin.tail;
-    head = subst (Begins p.seat.start.seats 0) (sym h) k.begin.head;
-    free = subst (Begins p.seat.start.seats p.seat.start.capacity) (sym f) k.begin.free;
-    items = subst (Begins p.seat.start.seats 0) (sym i) k.begin.items;
-  })
+called : (p : PassView) (kind : Kind) (reply : ℕ) (q : PassView) → HasGrown p kind reply q → Goes p q
+called p kind reply q g = record { number = g.number; start = g.start; idle = λ was. g.idle }
+
+uncalled : (p q : PassView) → q ≡ p → Goes p q
+uncalled p q is = record { number = ap (λ (x : PassView). x.number) is; start = ap (λ (x : PassView). x.seen.start) is; idle = subst (λ (x : PassView). IsIdle x.seen x.number) (sym is) }
+
+module _ {T : Type 0} (p q : CallerView T) (k : Keeps p) where
+  -- what a pass keeps whatever it calls
+  stays : IsSame p.seat q.seat → AllFour (λ w. Goes (pick w p.passes) (pick w q.passes)) → AreTickets (own_answers q.passes.tail) (own_puts q.seat) → AreTickets (own_answers q.passes.head) (own_takes q.seat)
+      → (lowered (own_answers q.passes.free) ≡ length (own_puts q.seat)) × (raised (own_answers q.passes.free) ≡ length (own_takes q.seat))
+      → (raised (own_answers q.passes.items) ≡ length (own_puts q.seat)) × (lowered (own_answers q.passes.items) ≡ length (own_takes q.seat)) → Keeps q
+  stays same all tail head free items =
+      let goes : (w : Which) → Goes (pick w p.passes) (pick w q.passes) = each_of (λ w. Goes (pick w p.passes) (pick w q.passes)) all in
+      let begin : (w : Which) → Begins p.seat.start.seats (first_of p.seat.start.capacity w) (pick w q.passes).seen.start =
+      λ w. subst (Begins p.seat.start.seats (first_of p.seat.start.capacity w)) (sym (goes w).start) (each_of (λ v. Begins p.seat.start.seats (first_of p.seat.start.capacity v) (pick v p.passes).seen.start) k.begin w) in
+      record {
+        sizes = subst AreSizes (sym same.2) k.sizes;
+        numbers = all_of (λ w. (pick w q.passes).number ≡ q.seat.number) (λ w. (goes w).number ∙ each_of (λ v. (pick v p.passes).number ≡ p.seat.number) k.numbers w ∙ sym same.1);
+        begin = subst (λ (s : cell.Start). AllBegin s.capacity s.seats (λ w. (pick w q.passes).seen.start)) (sym same.2) (all_of (λ w. Begins p.seat.start.seats (first_of p.seat.start.capacity w) (pick w q.passes).seen.start) begin);
+        idle = all_of (λ w. IsIdle (pick w q.passes).seen (pick w q.passes).number) (λ w. (goes w).idle (each_of (λ v. IsIdle (pick v p.passes).seen (pick v p.passes).number) k.idle w));
+        tail = tail;
+        head = head;
+        free = free;
+        items = items;
+      }
 
   -- a put keeps it
   pub kept_put : (ticket : ℕ) (item : T) → MadePut p ticket item q → Keeps q
   kept_put ticket item (calls, done) =
-      let number = done.same.1 in
-      let free = has_grown p.free Sub calls.there q.free calls.taken in
-      let tail = has_grown p.tail Add ticket q.tail calls.drawn in
-      let items = has_grown p.items Add calls.before q.items calls.given in
+      let free = has_grown p.passes.free Sub calls.there q.passes.free calls.taken in
+      let tail = has_grown p.passes.tail Add ticket q.passes.tail calls.drawn in
+      let items = has_grown p.passes.items Add calls.before q.passes.items calls.given in
       let puts : own_puts q.seat ≡ own_puts p.seat ++ ticket ∷ [] = done_puts p.seat (entries.Put ticket item) q.seat done.deeds_now in
       let takes : own_takes q.seat ≡ own_takes p.seat = done_takes p.seat (entries.Put ticket item) q.seat done.deeds_now ∙ append-nil (own_takes p.seat) in
       let more : length (own_puts q.seat) ≡ length (own_puts p.seat) + 1 = ap length puts ∙ longer (own_puts p.seat) ticket in
       let same : length (own_takes q.seat) ≡ length (own_takes p.seat) = ap length takes in
       let some : 0 < calls.there = calls.some in
-      record {
-        sizes = sizes done.same.2;
-        numbers = (tail.number ∙ k.numbers.0 ∙ sym number, ap (λ (x : PassView). x.number) calls.kept ∙ k.numbers.1 ∙ sym number, free.number ∙ k.numbers.2 ∙ sym number, items.number ∙ k.numbers.3 ∙ sym number);
-        begin = begin done.same.2 tail.start (ap (λ (x : PassView). x.seen.start) calls.kept) free.start items.start;
-        idle = (tail.idle, subst (λ (x : PassView). IsIdle x.seen x.number) (sym calls.kept) k.idle.1, free.idle, items.idle);
-        tail = subst (AreTickets (own_answers q.tail)) (sym puts) (tickets_more p.tail ticket q.tail (own_puts p.seat) tail k.tail);
-        head = subst (AreTickets (own_answers q.head)) (sym takes) (subst (λ (x : PassView). AreTickets (own_answers x) (own_takes p.seat)) (sym calls.kept) k.head);
-        free = (omega (arith, lowers p.free Sub calls.there q.free free, k.free.0), omega (arith, raises p.free Sub calls.there q.free free, k.free.1));
-        items = (omega (arith, raises p.items Add calls.before q.items items, k.items.0), omega (arith, lowers p.items Add calls.before q.items items, k.items.1));
-      }
+      stays done.same
+      (called p.passes.tail Add ticket q.passes.tail tail, uncalled p.passes.head q.passes.head calls.kept, called p.passes.free Sub calls.there q.passes.free free, called p.passes.items Add calls.before q.passes.items items)
+      (subst (AreTickets (own_answers q.passes.tail)) (sym puts) (tickets_more p.passes.tail ticket q.passes.tail (own_puts p.seat) tail k.tail))
+      (subst (AreTickets (own_answers q.passes.head)) (sym takes) (subst (λ (x : PassView). AreTickets (own_answers x) (own_takes p.seat)) (sym calls.kept) k.head))
+      (omega (arith, lowers p.passes.free Sub calls.there q.passes.free free, k.free.0), omega (arith, raises p.passes.free Sub calls.there q.passes.free free, k.free.1))
+      (omega (arith, raises p.passes.items Add calls.before q.passes.items items, k.items.0), omega (arith, lowers p.passes.items Add calls.before q.passes.items items, k.items.1))
 
   -- .. and so does a take
   pub kept_taken : (ticket : ℕ) (item : T) → MadeTake p ticket item q → Keeps q
   kept_taken ticket item (calls, done) =
-      let number = done.same.1 in
-      let items = has_grown p.items Sub calls.there q.items calls.taken in
-      let head = has_grown p.head Add ticket q.head calls.drawn in
-      let free = has_grown p.free Add calls.before q.free calls.given in
+      let items = has_grown p.passes.items Sub calls.there q.passes.items calls.taken in
+      let head = has_grown p.passes.head Add ticket q.passes.head calls.drawn in
+      let free = has_grown p.passes.free Add calls.before q.passes.free calls.given in
       let takes : own_takes q.seat ≡ own_takes p.seat ++ ticket ∷ [] = done_takes p.seat (entries.Take ticket) q.seat done.deeds_now in
       let puts : own_puts q.seat ≡ own_puts p.seat = done_puts p.seat (entries.Take ticket) q.seat done.deeds_now ∙ append-nil (own_puts p.seat) in
       let more : length (own_takes q.seat) ≡ length (own_takes p.seat) + 1 = ap length takes ∙ longer (own_takes p.seat) ticket in
       let same : length (own_puts q.seat) ≡ length (own_puts p.seat) = ap length puts in
       let some : 0 < calls.there = calls.some in
-      record {
-        sizes = sizes done.same.2;
-        numbers = (ap (λ (x : PassView). x.number) calls.kept ∙ k.numbers.0 ∙ sym number, head.number ∙ k.numbers.1 ∙ sym number, free.number ∙ k.numbers.2 ∙ sym number, items.number ∙ k.numbers.3 ∙ sym number);
-        begin = begin done.same.2 (ap (λ (x : PassView). x.seen.start) calls.kept) head.start free.start items.start;
-        idle = (subst (λ (x : PassView). IsIdle x.seen x.number) (sym calls.kept) k.idle.0, head.idle, free.idle, items.idle);
-        tail = subst (AreTickets (own_answers q.tail)) (sym puts) (subst (λ (x : PassView). AreTickets (own_answers x) (own_puts p.seat)) (sym calls.kept) k.tail);
-        head = subst (AreTickets (own_answers q.head)) (sym takes) (tickets_more p.head ticket q.head (own_takes p.seat) head k.head);
-        free = (omega (arith, lowers p.free Add calls.before q.free free, k.free.0), omega (arith, raises p.free Add calls.before q.free free, k.free.1));
-        items = (omega (arith, raises p.items Sub calls.there q.items items, k.items.0), omega (arith, lowers p.items Sub calls.there q.items items, k.items.1));
-      }
+      stays done.same
+      (uncalled p.passes.tail q.passes.tail calls.kept, called p.passes.head Add ticket q.passes.head head, called p.passes.free Add calls.before q.passes.free free, called p.passes.items Sub calls.there q.passes.items items)
+      (subst (AreTickets (own_answers q.passes.tail)) (sym puts) (subst (λ (x : PassView). AreTickets (own_answers x) (own_puts p.seat)) (sym calls.kept) k.tail))
+      (subst (AreTickets (own_answers q.passes.head)) (sym takes) (tickets_more p.passes.head ticket q.passes.head (own_takes p.seat) head k.head))
+      (omega (arith, lowers p.passes.free Add calls.before q.passes.free free, k.free.0), omega (arith, raises p.passes.free Add calls.before q.passes.free free, k.free.1))
+      (omega (arith, raises p.passes.items Sub calls.there q.passes.items items, k.items.0), omega (arith, lowers p.passes.items Sub calls.there q.passes.items items, k.items.1))
 
 module _ {T : Type 0} (p : CallerView T) (k : Keeps p) where
   -- a call that finds no room keeps it
-  kept_with_free : (free : PassView) → Made p.free Sub 1 0 free → Keeps (record p { free = free })
+  kept_with_free : (free : PassView) → Made p.passes.free Sub 1 0 free → Keeps (with_free p free)
   kept_with_free free made =
-      let g = has_grown p.free Sub 0 free made in
-      record {
-        sizes = k.sizes;
-        numbers = (k.numbers.0, k.numbers.1, g.number ∙ k.numbers.2, k.numbers.3);
-        begin = record { tail = k.begin.tail; head = k.begin.head; free = subst (Begins p.seat.start.seats p.seat.start.capacity) (sym g.start) k.begin.free; items = k.begin.items };
-        idle = (k.idle.0, k.idle.1, g.idle, k.idle.3);
-        tail = k.tail;
-        head = k.head;
-        free = (omega (arith, lowers p.free Sub 0 free g, k.free.0), omega (arith, raises p.free Sub 0 free g, k.free.1));
-        items = k.items;
-      }
+      let g = has_grown p.passes.free Sub 0 free made in
+      stays p (with_free p free) k (refl, refl, refl)
+      (uncalled p.passes.tail p.passes.tail refl, uncalled p.passes.head p.passes.head refl, called p.passes.free Sub 0 free g, uncalled p.passes.items p.passes.items refl)
+      k.tail
+      k.head
+      (omega (arith, lowers p.passes.free Sub 0 free g, k.free.0), omega (arith, raises p.passes.free Sub 0 free g, k.free.1))
+      k.items
 
   pub kept_full : (q : CallerView T) → MetFull p q → Keeps q
-  kept_full q full = subst Keeps (sym full.1) (kept_with_free q.free full.0)
+  kept_full q full = subst Keeps (sym full.1) (kept_with_free q.passes.free full.0)
 
   -- .. and so does one that finds no item
-  kept_with_items : (items : PassView) → Made p.items Sub 1 0 items → Keeps (record p { items = items })
+  kept_with_items : (items : PassView) → Made p.passes.items Sub 1 0 items → Keeps (with_items p items)
   kept_with_items items made =
-      let g = has_grown p.items Sub 0 items made in
-      record {
-        sizes = k.sizes;
-        numbers = (k.numbers.0, k.numbers.1, k.numbers.2, g.number ∙ k.numbers.3);
-        begin = record { tail = k.begin.tail; head = k.begin.head; free = k.begin.free; items = subst (Begins p.seat.start.seats 0) (sym g.start) k.begin.items };
-        idle = (k.idle.0, k.idle.1, k.idle.2, g.idle);
-        tail = k.tail;
-        head = k.head;
-        free = k.free;
-        items = (omega (arith, raises p.items Sub 0 items g, k.items.0), omega (arith, lowers p.items Sub 0 items g, k.items.1));
-      }
+      let g = has_grown p.passes.items Sub 0 items made in
+      stays p (with_items p items) k (refl, refl, refl)
+      (uncalled p.passes.tail p.passes.tail refl, uncalled p.passes.head p.passes.head refl, uncalled p.passes.free p.passes.free refl, called p.passes.items Sub 0 items g)
+      k.tail
+      k.head
+      k.free
+      (omega (arith, raises p.passes.items Sub 0 items g, k.items.0), omega (arith, lowers p.passes.items Sub 0 items g, k.items.1))
 
   pub kept_empty : (q : CallerView T) → MetEmpty p q → Keeps q
-  kept_empty q empty = subst Keeps (sym empty.1) (kept_with_items q.items empty.0)
+  kept_empty q empty = subst Keeps (sym empty.1) (kept_with_items q.passes.items empty.0)
 
 -- the account of a put, call by call
-pub put_of : {T : Type 0} (p q : CallerView T) (item : T) (room added more : Added) → Waited p.free Sub 1 room q.free → (room.before ≡ 0 → ⊥) → Waited p.tail Add 1 added q.tail → Waited p.items Add 1 more q.items → q.head ≡ p.head → Placed p.seat added.before item q.seat → HasPut p added.before item q
+pub put_of : {T : Type 0} (p q : CallerView T) (item : T) (room added more : Added) → Waited p.passes.free Sub 1 room q.passes.free → (room.before ≡ 0 → ⊥) → Waited p.passes.tail Add 1 added q.passes.tail → Waited p.passes.items Add 1 more q.passes.items → q.passes.head ≡ p.passes.head → Placed p.seat added.before item q.seat → HasPut p added.before item q
 put_of p q item room added more free some tail items head seat = record {
   room = room.before;
   some = omega (arith, some);
@@ -173,7 +177,7 @@ put_of p q item room added more free some tail items head seat = record {
 }
 
 -- .. and of a take
-pub taken_of : {T : Type 0} (p q : CallerView T) (item : T) (there added more : Added) → Waited p.items Sub 1 there q.items → (there.before ≡ 0 → ⊥) → Waited p.head Add 1 added q.head → Waited p.free Add 1 more q.free → q.tail ≡ p.tail → Taken p.seat added.before item q.seat → HasTaken p added.before item q
+pub taken_of : {T : Type 0} (p q : CallerView T) (item : T) (there added more : Added) → Waited p.passes.items Sub 1 there q.passes.items → (there.before ≡ 0 → ⊥) → Waited p.passes.head Add 1 added q.passes.head → Waited p.passes.free Add 1 more q.passes.free → q.passes.tail ≡ p.passes.tail → Taken p.seat added.before item q.seat → HasTaken p added.before item q
 taken_of p q item there added more items some head free tail seat = record {
   there = there.before;
   some = omega (arith, some);

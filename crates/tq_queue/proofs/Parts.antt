@@ -4,6 +4,12 @@ use Rattle.std.specs.Prelude.{All}
 use Rattle.std.proofs.lemmas.List.{map-append}
 use Rattle.std.proofs.lemmas.List.Elements.{All-nil, All-cons, All-head, All-tail}
 use Rattle.running.specs.Running.{upto, numbers_from}
+use Rattle.fn_table.specs.Seen.{PassView}
+use Rattle.tq_cells.specs.Seen.{SeatView}
+use Rattle.tq_queue.specs.declared.fours.Four.{Four}
+use Rattle.tq_queue.specs.Fours.{Which, pick, AllFour}
+use Rattle.tq_queue.specs.Seen.{CallerView}
+use Rattle.tq_queue.proofs.Each.{each_of, all_of}
 
 -- one more part
 pub parted : {X Y : Type 0} (f : X → Y) (xs : List X) (x : X) (old new : List Y) (y : Y) → new ≡ old ++ y ∷ [] → old ≡ map f xs → y ≡ f x → new ≡ map f (xs ++ x ∷ [])
@@ -12,6 +18,19 @@ parted f xs x old new y is so_far here = is ∙ ap (λ zs. zs ++ y ∷ []) so_fa
 -- a list with room for all that is to come has room for the rest
 pub roomy : (len cap left less newer room : ℕ) → newer ≡ len + 1 → room ≡ cap → less + 1 ≡ left → len + left ≤ cap → newer + less ≤ room
 roomy len cap left less newer room more same fewer is = omega (arith, more, same, fewer, is)
+
+-- .. of each of four
+pub four_parted : {T : Type 0} (xs : List (CallerView T)) (x : CallerView T) (seat : SeatView T) (own : Four PassView) (old new : Which → List PassView) → (let it : CallerView T = record { seat = seat; passes = own } in it ≡ x)
+    → AllFour (λ w. new w ≡ old w ++ pick w own ∷ []) → AllFour (λ w. old w ≡ map (λ (p : CallerView T). pick w p.passes) xs) → AllFour (λ w. new w ≡ map (λ (p : CallerView T). pick w p.passes) (xs ++ x ∷ []))
+four_parted {T} xs x seat own old new view is so_far = all_of (λ w. new w ≡ map (λ (p : CallerView T). pick w p.passes) (xs ++ x ∷ [])) (λ w.
+    parted (λ (p : CallerView T). pick w p.passes) xs x (old w) (new w) (pick w own)
+    (each_of (λ v. new v ≡ old v ++ pick v own ∷ []) is w)
+    (each_of (λ v. old v ≡ map (λ (p : CallerView T). pick v p.passes) xs) so_far w)
+    (ap (λ (p : CallerView T). pick w p.passes) view))
+
+pub four_roomy : (left less : ℕ) (len cap newer room : Which → ℕ) → AllFour (λ w. newer w ≡ len w + 1) → AllFour (λ w. room w ≡ cap w) → less + 1 ≡ left → AllFour (λ w. len w + left ≤ cap w) → AllFour (λ w. newer w + less ≤ room w)
+four_roomy left less len cap newer room more same fewer is = all_of (λ w. newer w + less ≤ room w) (λ w.
+    roomy (len w) (cap w) left less (newer w) (room w) (each_of (λ v. newer v ≡ len v + 1) more w) (each_of (λ v. room v ≡ cap v) same w) fewer (each_of (λ v. len v + left ≤ cap v) is w))
 
 -- what holds of the parts of each
 pub all_parts : {X Y : Type 0} (P : X → Type 0) (Q : Y → Type 0) (f : X → Y) → ((x : X) → P x → Q (f x)) → (xs : List X) → All P xs → All Q (map f xs)

@@ -1,37 +1,30 @@
 -- The parts of the passes of a queue are what its cells and its funnels close over.
-use Rattle.std.proofs.Common.{◌≡◌, ℕ, zero, suc, ◌≤◌, List, map, length, Some, slice_get, refl, sym, ◌∙◌, ap, subst, arith}
+use Rattle.std.proofs.Common.{◌≡◌, ℕ, zero, suc, ◌≤◌, List, map, length, refl, sym, ◌∙◌, ap, subst, arith}
 use Rattle.std.specs.Prelude.{All}
 use Rattle.std.proofs.lemmas.List.{length-map}
 use Rattle.std.proofs.lemmas.List.Elements.{All-weaker}
 use Rattle.running.specs.Running.{upto, numbers_from}
-use Rattle.fn_model.specs.Calls.{own}
-use Rattle.fn_core.specs.Calls.{CoreLog, calls_in, IsIdle}
+use Rattle.fn_core.specs.Calls.{CoreLog, IsIdle}
 use Rattle.fn_table.specs.Seen.{TableView, PassView}
 use Rattle.fn_table.specs.Seen as table
 use Rattle.tq_cells.specs.Seen as cells
 use Rattle.tq_queue.specs.declared.rooms.Parts.{Parts}
-use Rattle.tq_queue.specs.Seen.{QueueView, CallerView, Begins, HasClosed, IsOf, AreAll}
+use Rattle.tq_queue.specs.declared.fours.Four.{Four}
+use Rattle.tq_queue.specs.Fours.{pick, AllFour}
+use Rattle.tq_queue.specs.Seen.{QueueView, CallerView, Begins, first_of, HasClosed, IsOf, AreAll}
 use Rattle.tq_queue.specs.Kept.{IsOpen, Keeps}
-use Rattle.tq_queue.specs.Shares.{HoldsParts}
+use Rattle.tq_queue.specs.Shares.{HoldsParts, IsReady}
+use Rattle.tq_queue.proofs.Each.{each_of, all_of}
 use Rattle.tq_queue.proofs.Parts.{all_parts, all_both, numbers_same}
 
--- what the closing of a funnel asks of its passes
-pub record IsReady (t : TableView) (passes : List PassView) : Type 0 where
-  pub together : All (table.IsOf t) passes
-  pub all : table.AreAll t passes
-  pub idle : All (λ p. IsIdle p.seen p.number) passes
-
--- .. and the closing of cells of their seats
+-- what the closing of cells asks of their seats
 pub record AreReady {T : Type 0} (c : cells.CellsView) (seats : List (cells.SeatView T)) : Type 0 where
   pub together : All (cells.IsOf c) seats
   pub all : cells.AreAll c seats
 
 pub record AllReady {T : Type 0} (q : QueueView) (r : Parts T) : Type 0 where
   pub seats : AreReady q.cells r.seats.items
-  pub tails : IsReady q.tail r.tails.items
-  pub heads : IsReady q.head r.heads.items
-  pub frees : IsReady q.free r.frees.items
-  pub items : IsReady q.items r.items.items
+  pub passes : AllFour (λ w. IsReady (pick w q.funnels) (pick w r.passes).items)
 
 sized : (first count : ℕ) → length (numbers_from first count) ≡ count
 sized first zero = refl
@@ -64,10 +57,13 @@ module _ {T : Type 0} (q : QueueView) (ps : List (CallerView T)) (is_open : IsOp
   pub ready : (r : Parts T) → HoldsParts ps r → AllReady q r
   ready r are = record {
     seats = ready_seats r.seats.items are.seats;
-    tails = ready_one q.tail 0 (λ p. p.tail) r.tails.items is_open.begin.tail are.tails (λ p h. h.0.1) (λ p h. h.1.numbers.0) (λ p h. h.1.idle.0);
-    heads = ready_one q.head 0 (λ p. p.head) r.heads.items is_open.begin.head are.heads (λ p h. h.0.2) (λ p h. h.1.numbers.1) (λ p h. h.1.idle.1);
-    frees = ready_one q.free q.cells.start.capacity (λ p. p.free) r.frees.items is_open.begin.free are.frees (λ p h. h.0.3) (λ p h. h.1.numbers.2) (λ p h. h.1.idle.2);
-    items = ready_one q.items 0 (λ p. p.items) r.items.items is_open.begin.items are.items (λ p h. h.0.4) (λ p h. h.1.numbers.3) (λ p h. h.1.idle.3);
+    passes = all_of (λ w. IsReady (pick w q.funnels) (pick w r.passes).items) (λ w.
+        ready_one (pick w q.funnels) (first_of q.cells.start.capacity w) (λ p. pick w p.passes) (pick w r.passes).items
+        (each_of (λ v. Begins q.cells.start.seats (first_of q.cells.start.capacity v) (pick v q.funnels).start) is_open.begin w)
+        (each_of (λ v. (pick v r.passes).items ≡ map (λ (p : CallerView T). pick v p.passes) ps) are.passes w)
+        (λ p h. each_of (λ v. table.IsOf (pick v q.funnels) (pick v p.passes)) h.0.1 w)
+        (λ p h. each_of (λ v. (pick v p.passes).number ≡ p.seat.number) h.1.numbers w)
+        (λ p h. each_of (λ v. IsIdle (pick v p.passes).seen (pick v p.passes).number) h.1.idle w));
   }
 
 -- there are no more passes than there is room for
@@ -76,7 +72,10 @@ few_passes q ps all is_open =
     let count : length ps ≡ q.cells.start.seats = sym (length-map ps (λ (p : CallerView _). p.seat.number)) ∙ ap length all ∙ sized 0 q.cells.start.seats in
     omega (arith, count, is_open.sizes.3)
 
--- a funnel has closed over the parts of the passes
-pub has_closed : (t : TableView) (passes parts : List PassView) (book : CoreLog) → parts ≡ passes → book.start ≡ t.start → table.IsClosed parts book → ((k : ℕ) (p : PassView) → slice_get parts k ≡ Some p → own p.number (calls_in book) ≡ own p.number (calls_in p.seen)) → HasClosed t passes book
-has_closed t passes parts book are start closed calls =
-    subst (λ (xs : List PassView). HasClosed t xs book) are (record { start = start; closed = closed; calls = calls })
+-- the funnels have closed over the parts of the passes
+pub has_closed : {T : Type 0} (q : QueueView) (ps : List (CallerView T)) (r : Parts T) (books : Four CoreLog) → HoldsParts ps r → AllFour (λ w. HasClosed (pick w q.funnels) (pick w r.passes).items (pick w books))
+    → AllFour (λ w. HasClosed (pick w q.funnels) (map (λ (p : CallerView T). pick w p.passes) ps) (pick w books))
+has_closed {T} q ps r books are closed = all_of (λ w. HasClosed (pick w q.funnels) (map (λ (p : CallerView T). pick w p.passes) ps) (pick w books)) (λ w.
+    subst (λ (xs : List PassView). HasClosed (pick w q.funnels) xs (pick w books))
+    (each_of (λ v. (pick v r.passes).items ≡ map (λ (p : CallerView T). pick v p.passes) ps) are.passes w)
+    (each_of (λ v. HasClosed (pick v q.funnels) (pick v r.passes).items (pick v books)) closed w))

@@ -17,6 +17,7 @@ use Rattle.fn_core.specs.declared.Move.TheVariants.{Glance}
 use Rattle.fn_core.specs.Calls.{CoreLog, calls_in, IsLegal}
 use Rattle.fn_core.proofs.Public.{replies_are_bounded, calls_are_of_passes}
 use Rattle.fn_table.specs.Seen.{TableView, PassView}
+use Rattle.fn_table.specs.Seen as table
 use Rattle.tq_cells.specs.declared.entry.Entry.{Entry}
 use Rattle.tq_cells.specs.declared.entry.Entry.TheVariants as entries
 use Rattle.tq_cells.specs.declared.entry.Event.{Event}
@@ -25,9 +26,11 @@ use Rattle.tq_cells.specs.Laws.{puts, takes, put_by, taken_by}
 use Rattle.tq_cells.specs.Seen.{entries_of}
 use Rattle.tq_cells.specs.Seen as cells
 use Rattle.tq_queue.specs.Answers.{Answered, answered, answers_of, raised, lowered, raised_by, lowered_by, AddsOne, AreTickets}
-use Rattle.tq_queue.specs.Seen.{QueueView, CallerView, BookView, Begins, HasClosed, IsOf, AreAll, IsClosed, value_of, allowance}
+use Rattle.tq_queue.specs.Fours.{Which, Tail, Head, Free, Items, pick}
+use Rattle.tq_queue.specs.Seen.{QueueView, CallerView, BookView, Begins, first_of, HasClosed, IsOf, AreAll, IsClosed, value_of, allowance}
 use Rattle.tq_queue.specs.Kept.{own_answers, own_puts, own_takes, tickets_put, tickets_taken, ticket_put, ticket_taken, IsOpen, Keeps}
 use Rattle.tq_queue.specs.Laws.{Rises, IsSound, BooksHaveAnswers}
+use Rattle.tq_queue.proofs.Each.{each_of}
 use Rattle.tq_queue.proofs.Counting.{IsBounded, balanced, numbered, counted, rising, tick, tally}
 use Rattle.tq_queue.proofs.Keeping.{sum-replicate}
 use Rattle.tq_queue.proofs.Parts.{all_at, get-map}
@@ -179,6 +182,9 @@ module _ {T : Type 0} (q : QueueView) (ps : List (CallerView T)) (b : BookView T
   seats_below : All (λ (e : Event T). e.seat < n) log
   seats_below = entries_have_seats q ps all b closed
 
+  closed_of : (w : Which) → HasClosed (pick w q.funnels) (map (λ (x : CallerView T). pick w x.passes) ps) (pick w b.funnels)
+  closed_of = each_of (λ w. HasClosed (pick w q.funnels) (map (λ (x : CallerView T). pick w x.passes) ps) (pick w b.funnels)) closed.funnels
+
   module _ (p : ℕ) (range : p < n) where
     abbrev this : CallerView T
     this = (seats_have_passes q ps all p range).pass
@@ -204,62 +210,39 @@ module _ {T : Type 0} (q : QueueView) (ps : List (CallerView T)) (b : BookView T
     takes_same : tickets_taken (entries_of p log) ≡ own_takes this.seat
     takes_same = ap tickets_taken entries_same
 
-    tail_same : answers_of p (book_answers b.tail) ≡ own_answers this.tail
-    tail_same = ap (λ (k : ℕ). answers_of k (book_answers b.tail)) (sym (keeps.numbers.0 ∙ is_p)) ∙ book_own q.tail (map (λ (x : CallerView T). x.tail) ps) b.tail closed.tail p this.tail (get-map (λ (x : CallerView T). x.tail) ps p this at) of.1.1
+    answers_same : (w : Which) → answers_of p (book_answers (pick w b.funnels)) ≡ own_answers (pick w this.passes)
+    answers_same w =
+        ap (λ (k : ℕ). answers_of k (book_answers (pick w b.funnels))) (sym (each_of (λ v. (pick v this.passes).number ≡ this.seat.number) keeps.numbers w ∙ is_p))
+        ∙ book_own (pick w q.funnels) (map (λ (x : CallerView T). pick w x.passes) ps) (pick w b.funnels) (closed_of w) p (pick w this.passes) (get-map (λ (x : CallerView T). pick w x.passes) ps p this at)
+        (each_of (λ v. table.IsOf (pick v q.funnels) (pick v this.passes)) of.1 w).1
 
-    head_same : answers_of p (book_answers b.head) ≡ own_answers this.head
-    head_same = ap (λ (k : ℕ). answers_of k (book_answers b.head)) (sym (keeps.numbers.1 ∙ is_p)) ∙ book_own q.head (map (λ (x : CallerView T). x.head) ps) b.head closed.head p this.head (get-map (λ (x : CallerView T). x.head) ps p this at) of.2.1
+    tail_each : AreTickets (answers_of p (book_answers b.funnels.tail)) (tickets_put (entries_of p log))
+    tail_each = subst (λ (xs : List Answered). AreTickets xs (tickets_put (entries_of p log))) (sym (answers_same Tail)) (subst (AreTickets (own_answers this.passes.tail)) (sym puts_same) keeps.tail)
 
-    free_same : answers_of p (book_answers b.free) ≡ own_answers this.free
-    free_same = ap (λ (k : ℕ). answers_of k (book_answers b.free)) (sym (keeps.numbers.2 ∙ is_p)) ∙ book_own q.free (map (λ (x : CallerView T). x.free) ps) b.free closed.free p this.free (get-map (λ (x : CallerView T). x.free) ps p this at) of.3.1
+    head_each : AreTickets (answers_of p (book_answers b.funnels.head)) (tickets_taken (entries_of p log))
+    head_each = subst (λ (xs : List Answered). AreTickets xs (tickets_taken (entries_of p log))) (sym (answers_same Head)) (subst (AreTickets (own_answers this.passes.head)) (sym takes_same) keeps.head)
 
-    items_same : answers_of p (book_answers b.items) ≡ own_answers this.items
-    items_same = ap (λ (k : ℕ). answers_of k (book_answers b.items)) (sym (keeps.numbers.3 ∙ is_p)) ∙ book_own q.items (map (λ (x : CallerView T). x.items) ps) b.items closed.items p this.items (get-map (λ (x : CallerView T). x.items) ps p this at) of.4.1
+    free_puts : lowered (answers_of p (book_answers b.funnels.free)) ≡ length (tickets_put (entries_of p log))
+    free_puts = ap lowered (answers_same Free) ∙ keeps.free.0 ∙ ap length (sym puts_same)
 
-    tail_each : AreTickets (answers_of p (book_answers b.tail)) (tickets_put (entries_of p log))
-    tail_each = subst (λ (xs : List Answered). AreTickets xs (tickets_put (entries_of p log))) (sym tail_same) (subst (AreTickets (own_answers this.tail)) (sym puts_same) keeps.tail)
+    free_takes : raised (answers_of p (book_answers b.funnels.free)) ≡ length (tickets_taken (entries_of p log))
+    free_takes = ap raised (answers_same Free) ∙ keeps.free.1 ∙ ap length (sym takes_same)
 
-    head_each : AreTickets (answers_of p (book_answers b.head)) (tickets_taken (entries_of p log))
-    head_each = subst (λ (xs : List Answered). AreTickets xs (tickets_taken (entries_of p log))) (sym head_same) (subst (AreTickets (own_answers this.head)) (sym takes_same) keeps.head)
+    items_puts : raised (answers_of p (book_answers b.funnels.items)) ≡ length (tickets_put (entries_of p log))
+    items_puts = ap raised (answers_same Items) ∙ keeps.items.0 ∙ ap length (sym puts_same)
 
-    free_puts : lowered (answers_of p (book_answers b.free)) ≡ length (tickets_put (entries_of p log))
-    free_puts = ap lowered free_same ∙ keeps.free.0 ∙ ap length (sym puts_same)
+    items_takes : lowered (answers_of p (book_answers b.funnels.items)) ≡ length (tickets_taken (entries_of p log))
+    items_takes = ap lowered (answers_same Items) ∙ keeps.items.1 ∙ ap length (sym takes_same)
 
-    free_takes : raised (answers_of p (book_answers b.free)) ≡ length (tickets_taken (entries_of p log))
-    free_takes = ap raised free_same ∙ keeps.free.1 ∙ ap length (sym takes_same)
+  legal_of : (w : Which) → IsLegal (pick w b.funnels)
+  legal_of w = (closed_of w).closed.legal
 
-    items_puts : raised (answers_of p (book_answers b.items)) ≡ length (tickets_put (entries_of p log))
-    items_puts = ap raised items_same ∙ keeps.items.0 ∙ ap length (sym puts_same)
+  begins : (w : Which) → Begins n (first_of q.cells.start.capacity w) (pick w b.funnels).start
+  begins w =
+      subst (Begins n (first_of q.cells.start.capacity w)) (sym (closed_of w).start) (each_of (λ v. Begins n (first_of q.cells.start.capacity v) (pick v q.funnels).start) is_open.begin w)
 
-    items_takes : lowered (answers_of p (book_answers b.items)) ≡ length (tickets_taken (entries_of p log))
-    items_takes = ap lowered items_same ∙ keeps.items.1 ∙ ap length (sym takes_same)
-
-  begins : (first : ℕ) (t : TableView) (passes : List PassView) (book : CoreLog) → HasClosed t passes book → Begins n first t.start → Begins n first book.start
-  begins first t passes book c is = subst (Begins n first) (sym c.start) is
-
-  tail_begins : Begins n 0 b.tail.start
-  tail_begins = begins 0 q.tail (map (λ (x : CallerView T). x.tail) ps) b.tail closed.tail is_open.begin.tail
-
-  head_begins : Begins n 0 b.head.start
-  head_begins = begins 0 q.head (map (λ (x : CallerView T). x.head) ps) b.head closed.head is_open.begin.head
-
-  free_begins : Begins n q.cells.start.capacity b.free.start
-  free_begins = begins q.cells.start.capacity q.free (map (λ (x : CallerView T). x.free) ps) b.free closed.free is_open.begin.free
-
-  items_begins : Begins n 0 b.items.start
-  items_begins = begins 0 q.items (map (λ (x : CallerView T). x.items) ps) b.items closed.items is_open.begin.items
-
-  tail_range : All (λ (a : Answered). a.call.pass < n) (book_answers b.tail)
-  tail_range = book_range n 0 b.tail closed.tail.closed.legal tail_begins
-
-  head_range : All (λ (a : Answered). a.call.pass < n) (book_answers b.head)
-  head_range = book_range n 0 b.head closed.head.closed.legal head_begins
-
-  free_range : All (λ (a : Answered). a.call.pass < n) (book_answers b.free)
-  free_range = book_range n q.cells.start.capacity b.free closed.free.closed.legal free_begins
-
-  items_range : All (λ (a : Answered). a.call.pass < n) (book_answers b.items)
-  items_range = book_range n 0 b.items closed.items.closed.legal items_begins
+  ranges : (w : Which) → All (λ (a : Answered). a.call.pass < n) (book_answers (pick w b.funnels))
+  ranges w = book_range n (first_of q.cells.start.capacity w) (pick w b.funnels) (legal_of w) (begins w)
 
   bounded : (first : ℕ) (book : CoreLog) → IsLegal book → Begins n first book.start → first ≤ 65536 → IsBounded book.start.cap book.start.opening (calls_in book)
   bounded first book legal is small = book_bounded n first book legal is is_open.sizes.3 small
@@ -286,63 +269,63 @@ module _ {T : Type 0} (q : QueueView) (ps : List (CallerView T)) (b : BookView T
     unfolding book_answers
     rises p = rising book.start.cap p book.start.opening 0 (calls_in book) (bounded 0 book legal is (omega arith)) ones_all (omega arith)
 
-  tail_ones : All AddsOne (book_answers b.tail)
-  tail_ones = all_ones n (λ p. tickets_put (entries_of p log)) (book_answers b.tail) tail_range tail_each
+  tail_ones : All AddsOne (book_answers b.funnels.tail)
+  tail_ones = all_ones n (λ p. tickets_put (entries_of p log)) (book_answers b.funnels.tail) (ranges Tail) tail_each
 
-  head_ones : All AddsOne (book_answers b.head)
-  head_ones = all_ones n (λ p. tickets_taken (entries_of p log)) (book_answers b.head) head_range head_each
+  head_ones : All AddsOne (book_answers b.funnels.head)
+  head_ones = all_ones n (λ p. tickets_taken (entries_of p log)) (book_answers b.funnels.head) (ranges Head) head_each
 
   no_entries : (p : ℕ) → n ≤ p → entries_of p log ≡ []
   no_entries p beyond = none_beyond n p log seats_below beyond
 
   puts_rise : (p : ℕ) → Rises 0 (tickets_put (entries_of p log))
   puts_rise p = elim (cases_lt p n) [
-    | inl range ↦ subst (Rises 0) (tail_each p range).met (rises b.tail closed.tail.closed.legal tail_begins tail_ones p)
+    | inl range ↦ subst (Rises 0) (tail_each p range).met (rises b.funnels.tail (legal_of Tail) (begins Tail) tail_ones p)
     | inr beyond ↦ subst (Rises 0) (sym (ap tickets_put (no_entries p beyond))) tt
   ]
 
   takes_rise : (p : ℕ) → Rises 0 (tickets_taken (entries_of p log))
   takes_rise p = elim (cases_lt p n) [
-    | inl range ↦ subst (Rises 0) (head_each p range).met (rises b.head closed.head.closed.legal head_begins head_ones p)
+    | inl range ↦ subst (Rises 0) (head_each p range).met (rises b.funnels.head (legal_of Head) (begins Head) head_ones p)
     | inr beyond ↦ subst (Rises 0) (sym (ap tickets_taken (no_entries p beyond))) tt
   ]
 
-  put_once : (t : ℕ) → length (puts t log) ≡ (if nat_lt t (value_of b.tail) then 1 else 0)
-  put_once t = put_often n t log seats_below ∙ as_often n (λ p. tickets_put (entries_of p log)) (book_answers b.tail) tail_range tail_each t ∙ once_each b.tail closed.tail.closed.legal tail_begins tail_ones t
+  put_once : (t : ℕ) → length (puts t log) ≡ (if nat_lt t (value_of b.funnels.tail) then 1 else 0)
+  put_once t = put_often n t log seats_below ∙ as_often n (λ p. tickets_put (entries_of p log)) (book_answers b.funnels.tail) (ranges Tail) tail_each t ∙ once_each b.funnels.tail (legal_of Tail) (begins Tail) tail_ones t
 
-  taken_once : (t : ℕ) → takes t log ≡ (if nat_lt t (value_of b.head) then 1 else 0)
-  taken_once t = taken_often n t log seats_below ∙ as_often n (λ p. tickets_taken (entries_of p log)) (book_answers b.head) head_range head_each t ∙ once_each b.head closed.head.closed.legal head_begins head_ones t
+  taken_once : (t : ℕ) → takes t log ≡ (if nat_lt t (value_of b.funnels.head) then 1 else 0)
+  taken_once t = taken_often n t log seats_below ∙ as_often n (λ p. tickets_taken (entries_of p log)) (book_answers b.funnels.head) (ranges Head) head_each t ∙ once_each b.funnels.head (legal_of Head) (begins Head) head_ones t
 
   abbrev tails : ℕ
-  tails = value_of b.tail
+  tails = value_of b.funnels.tail
 
   abbrev heads : ℕ
-  heads = value_of b.head
+  heads = value_of b.funnels.head
 
-  free_lowered : lowered (book_answers b.free) ≡ tails
-  free_lowered = as_many n (λ p. tickets_put (entries_of p log)) (book_answers b.tail) tail_range tail_each (book_answers b.free) (λ (a : Answered). lowered_by a.call.kind a.call.amount a.met) free_range free_puts ∙ sym (value_is b.tail closed.tail.closed.legal tail_begins tail_ones)
+  free_lowered : lowered (book_answers b.funnels.free) ≡ tails
+  free_lowered = as_many n (λ p. tickets_put (entries_of p log)) (book_answers b.funnels.tail) (ranges Tail) tail_each (book_answers b.funnels.free) (λ (a : Answered). lowered_by a.call.kind a.call.amount a.met) (ranges Free) free_puts ∙ sym (value_is b.funnels.tail (legal_of Tail) (begins Tail) tail_ones)
 
-  free_raised : raised (book_answers b.free) ≡ heads
-  free_raised = as_many n (λ p. tickets_taken (entries_of p log)) (book_answers b.head) head_range head_each (book_answers b.free) (λ (a : Answered). raised_by a.call.kind a.call.amount) free_range free_takes ∙ sym (value_is b.head closed.head.closed.legal head_begins head_ones)
+  free_raised : raised (book_answers b.funnels.free) ≡ heads
+  free_raised = as_many n (λ p. tickets_taken (entries_of p log)) (book_answers b.funnels.head) (ranges Head) head_each (book_answers b.funnels.free) (λ (a : Answered). raised_by a.call.kind a.call.amount) (ranges Free) free_takes ∙ sym (value_is b.funnels.head (legal_of Head) (begins Head) head_ones)
 
-  items_raised : raised (book_answers b.items) ≡ tails
-  items_raised = as_many n (λ p. tickets_put (entries_of p log)) (book_answers b.tail) tail_range tail_each (book_answers b.items) (λ (a : Answered). raised_by a.call.kind a.call.amount) items_range items_puts ∙ sym (value_is b.tail closed.tail.closed.legal tail_begins tail_ones)
+  items_raised : raised (book_answers b.funnels.items) ≡ tails
+  items_raised = as_many n (λ p. tickets_put (entries_of p log)) (book_answers b.funnels.tail) (ranges Tail) tail_each (book_answers b.funnels.items) (λ (a : Answered). raised_by a.call.kind a.call.amount) (ranges Items) items_puts ∙ sym (value_is b.funnels.tail (legal_of Tail) (begins Tail) tail_ones)
 
-  items_lowered : lowered (book_answers b.items) ≡ heads
-  items_lowered = as_many n (λ p. tickets_taken (entries_of p log)) (book_answers b.head) head_range head_each (book_answers b.items) (λ (a : Answered). lowered_by a.call.kind a.call.amount a.met) items_range items_takes ∙ sym (value_is b.head closed.head.closed.legal head_begins head_ones)
+  items_lowered : lowered (book_answers b.funnels.items) ≡ heads
+  items_lowered = as_many n (λ p. tickets_taken (entries_of p log)) (book_answers b.funnels.head) (ranges Head) head_each (book_answers b.funnels.items) (λ (a : Answered). lowered_by a.call.kind a.call.amount a.met) (ranges Items) items_takes ∙ sym (value_is b.funnels.head (legal_of Head) (begins Head) head_ones)
 
-  free_balance : value_of b.free + tails ≡ b.cells.start.capacity + heads
+  free_balance : value_of b.funnels.free + tails ≡ b.cells.start.capacity + heads
   unfolding book_answers
   free_balance =
-      let opening : b.free.start.opening ≡ q.cells.start.capacity = free_begins.opening in
+      let opening : b.funnels.free.start.opening ≡ q.cells.start.capacity = (begins Free).opening in
       let capacity : b.cells.start.capacity ≡ q.cells.start.capacity = ap (λ (s : cell.Start). s.capacity) closed.start in
-      omega (arith, balanced b.free.start.cap b.free.start.opening (calls_in b.free) (bounded q.cells.start.capacity b.free closed.free.closed.legal free_begins is_open.sizes.1), free_lowered, free_raised, opening, capacity)
+      omega (arith, balanced b.funnels.free.start.cap b.funnels.free.start.opening (calls_in b.funnels.free) (bounded q.cells.start.capacity b.funnels.free (legal_of Free) (begins Free) is_open.sizes.1), free_lowered, free_raised, opening, capacity)
 
-  items_balance : value_of b.items + heads ≡ tails
+  items_balance : value_of b.funnels.items + heads ≡ tails
   unfolding book_answers
   items_balance =
-      let opening : b.items.start.opening ≡ 0 = items_begins.opening in
-      omega (arith, balanced b.items.start.cap b.items.start.opening (calls_in b.items) (bounded 0 b.items closed.items.closed.legal items_begins (omega arith)), items_lowered, items_raised, opening)
+      let opening : b.funnels.items.start.opening ≡ 0 = (begins Items).opening in
+      omega (arith, balanced b.funnels.items.start.cap b.funnels.items.start.opening (calls_in b.funnels.items) (bounded 0 b.funnels.items (legal_of Items) (begins Items) (omega arith)), items_lowered, items_raised, opening)
 
   pub sound : IsSound b
   sound = record {

@@ -72,19 +72,19 @@ module _ {T : Type 0} where
 
     module _ (sound : IsSound book) (f : ℕ → ℕ) where
       -- `tail` counts what all seats put
-      pub tail_counts_puts : ((seat : ℕ) → seat < n → length (tickets_put (entries_of seat log)) ≡ f seat) → value_of book.tail ≡ sum_below n f
+      pub tail_counts_puts : ((seat : ℕ) → seat < n → length (tickets_put (entries_of seat log)) ≡ f seat) → value_of book.funnels.tail ≡ sum_below n f
       tail_counts_puts each =
           let w : Event T → ℕ = λ e. length (ticket_put e.entry) in
-          sym (as_many_numbers (value_of book.tail) (tickets_put log) (λ t. sym (puts_sum t log ∙ tickets_put_sum t log) ∙ sound.puts t))
+          sym (as_many_numbers (value_of book.funnels.tail) (tickets_put log) (λ t. sym (puts_sum t log ∙ tickets_put_sum t log) ∙ sound.puts t))
           ∙ put_lengths log
           ∙ shared (λ (e : Event T). e.seat) w n log range
           ∙ sum_below-same n (λ p. sum_by w (entries_of p log)) f (λ p l. sym (put_lengths (entries_of p log)) ∙ each p l)
 
       -- .. and `head` what all take
-      pub head_counts_takes : ((seat : ℕ) → seat < n → length (tickets_taken (entries_of seat log)) ≡ f seat) → value_of book.head ≡ sum_below n f
+      pub head_counts_takes : ((seat : ℕ) → seat < n → length (tickets_taken (entries_of seat log)) ≡ f seat) → value_of book.funnels.head ≡ sum_below n f
       head_counts_takes each =
           let w : Event T → ℕ = λ e. length (ticket_taken e.entry) in
-          sym (as_many_numbers (value_of book.head) (tickets_taken log) (λ t. sym (takes_sum t log ∙ tickets_taken_sum t log) ∙ sound.takes t))
+          sym (as_many_numbers (value_of book.funnels.head) (tickets_taken log) (λ t. sym (takes_sum t log ∙ tickets_taken_sum t log) ∙ sound.takes t))
           ∙ taken_lengths log
           ∙ shared (λ (e : Event T). e.seat) w n log range
           ∙ sum_below-same n (λ p. sum_by w (entries_of p log)) f (λ p l. sym (taken_lengths (entries_of p log)) ∙ each p l)

@@ -13,7 +13,7 @@ use Rattle.tq_cells.specs.declared.entry.Entry.{Entry}
 use Rattle.tq_cells.specs.declared.entry.Entry.TheVariants.{Put, Take}
 use Rattle.tq_cells.specs.Laws.{puts}
 use Rattle.tq_cells.specs.Seen.{SeatView, IsSame, entries_of}
-use Rattle.tq_queue.specs.Seen.{CallerView}
+use Rattle.tq_queue.specs.Seen.{CallerView, with_free, with_items}
 
 module _ {T : Type 0} where
   -- what an entry does: it puts an item, or takes one; the others, as an exchange that missed, do neither
@@ -45,16 +45,16 @@ module _ {T : Type 0} where
 
   -- the pass has put the item under the ticket: there was room for it, and one more item is there
   abbrev pub MadePut : CallerView T → ℕ → T → CallerView T → Type 0
-  MadePut p ticket item q = HasPassed (λ c. c.free) (λ c. c.tail) (λ c. c.items) (λ c. c.head) p ticket q × HasDone p.seat (Put ticket item) ticket item q.seat
+  MadePut p ticket item q = HasPassed (λ c. c.passes.free) (λ c. c.passes.tail) (λ c. c.passes.items) (λ c. c.passes.head) p ticket q × HasDone p.seat (Put ticket item) ticket item q.seat
 
   -- the pass has taken the item of the ticket: it was there, and there is more room
   abbrev pub MadeTake : CallerView T → ℕ → T → CallerView T → Type 0
-  MadeTake p ticket item q = HasPassed (λ c. c.items) (λ c. c.head) (λ c. c.free) (λ c. c.tail) p ticket q × HasDone p.seat (Take ticket) ticket item q.seat
+  MadeTake p ticket item q = HasPassed (λ c. c.passes.items) (λ c. c.passes.head) (λ c. c.passes.free) (λ c. c.passes.tail) p ticket q × HasDone p.seat (Take ticket) ticket item q.seat
 
   -- the pass made one call, which met no room; all else is as it was
   abbrev pub MetFull : CallerView T → CallerView T → Type 0
-  MetFull p q = Made p.free Sub 1 0 q.free × (q ≡ record p { free = q.free })
+  MetFull p q = Made p.passes.free Sub 1 0 q.passes.free × (q ≡ with_free p q.passes.free)
 
   -- .. and one which met no item
   abbrev pub MetEmpty : CallerView T → CallerView T → Type 0
-  MetEmpty p q = Made p.items Sub 1 0 q.items × (q ≡ record p { items = q.items })
+  MetEmpty p q = Made p.passes.items Sub 1 0 q.passes.items × (q ≡ with_items p q.passes.items)

@@ -10,6 +10,7 @@ use Rattle.tq_cells.specs.declared.entry.Entry.TheVariants.{Put, Take}
 use Rattle.tq_cells.specs.declared.entry.Event.{Event}
 use Rattle.tq_cells.specs.Seen.{SeatView, entries_of}
 use Rattle.tq_queue.specs.Answers.{Answered, answered, answers_of, raised, lowered, AreTickets}
+use Rattle.tq_queue.specs.Fours.{pick, AllFour}
 use Rattle.tq_queue.specs.Seen.{QueueView, CallerView, AllBegin}
 
 -- a funnel pass's own calls, each with what it met
@@ -23,7 +24,7 @@ AreSizes start = (1 ≤ start.capacity) × (start.capacity ≤ 65536) × (1 ≤ 
 -- what holds of each queue
 pub record IsOpen (q : QueueView) : Type 0 where
   pub sizes : AreSizes q.cells.start
-  pub begin : AllBegin q.cells.start.capacity q.cells.start.seats q.tail.start q.head.start q.free.start q.items.start
+  pub begin : AllBegin q.cells.start.capacity q.cells.start.seats (λ w. (pick w q.funnels).start)
 
 module _ {T : Type 0} where
   -- the ticket that an entry puts
@@ -54,10 +55,10 @@ module _ {T : Type 0} where
   -- The pass makes no call. Each ticket that it has put came from its calls on `tail`, and each that it has taken from those on `head`. As many calls took room as it has put, and as many gave room as it has taken; with items it is the other way round
   pub record Keeps (p : CallerView T) : Type 0 where
     pub sizes : AreSizes p.seat.start
-    pub numbers : (p.tail.number ≡ p.seat.number) × (p.head.number ≡ p.seat.number) × (p.free.number ≡ p.seat.number) × (p.items.number ≡ p.seat.number)
-    pub begin : AllBegin p.seat.start.capacity p.seat.start.seats p.tail.seen.start p.head.seen.start p.free.seen.start p.items.seen.start
-    pub idle : IsIdle p.tail.seen p.tail.number × IsIdle p.head.seen p.head.number × IsIdle p.free.seen p.free.number × IsIdle p.items.seen p.items.number
-    pub tail : AreTickets (own_answers p.tail) (own_puts p.seat)
-    pub head : AreTickets (own_answers p.head) (own_takes p.seat)
-    pub free : (lowered (own_answers p.free) ≡ length (own_puts p.seat)) × (raised (own_answers p.free) ≡ length (own_takes p.seat))
-    pub items : (raised (own_answers p.items) ≡ length (own_puts p.seat)) × (lowered (own_answers p.items) ≡ length (own_takes p.seat))
+    pub numbers : AllFour (λ w. (pick w p.passes).number ≡ p.seat.number)
+    pub begin : AllBegin p.seat.start.capacity p.seat.start.seats (λ w. (pick w p.passes).seen.start)
+    pub idle : AllFour (λ w. IsIdle (pick w p.passes).seen (pick w p.passes).number)
+    pub tail : AreTickets (own_answers p.passes.tail) (own_puts p.seat)
+    pub head : AreTickets (own_answers p.passes.head) (own_takes p.seat)
+    pub free : (lowered (own_answers p.passes.free) ≡ length (own_puts p.seat)) × (raised (own_answers p.passes.free) ≡ length (own_takes p.seat))
+    pub items : (raised (own_answers p.passes.items) ≡ length (own_puts p.seat)) × (lowered (own_answers p.passes.items) ≡ length (own_takes p.seat))

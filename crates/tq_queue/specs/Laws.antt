@@ -24,13 +24,13 @@ Rises at (ticket ∷ tickets) = (at ≤ ticket) × Rises (suc ticket) tickets
 
 -- The tickets put are those below the value of `tail`, each once, and the tickets taken those below the value of `head`. Those of one seat rise
 pub record IsSound {T : Type 0} (b : BookView T) : Type 0 where
-  pub puts : (ticket : ℕ) → length (puts ticket b.cells.log) ≡ (if nat_lt ticket (value_of b.tail) then 1 else 0)
-  pub takes : (ticket : ℕ) → takes ticket b.cells.log ≡ (if nat_lt ticket (value_of b.head) then 1 else 0)
+  pub puts : (ticket : ℕ) → length (puts ticket b.cells.log) ≡ (if nat_lt ticket (value_of b.funnels.tail) then 1 else 0)
+  pub takes : (ticket : ℕ) → takes ticket b.cells.log ≡ (if nat_lt ticket (value_of b.funnels.head) then 1 else 0)
   pub rising_puts : (seat : ℕ) → Rises 0 (tickets_put (entries_of seat b.cells.log))
   pub rising_takes : (seat : ℕ) → Rises 0 (tickets_taken (entries_of seat b.cells.log))
-  pub order : (value_of b.head ≤ value_of b.tail) × (value_of b.tail ≤ value_of b.head + b.cells.start.capacity)
-  pub items : value_of b.items ≡ value_of b.tail - value_of b.head
-  pub free : value_of b.free ≡ b.cells.start.capacity - (value_of b.tail - value_of b.head)
+  pub order : (value_of b.funnels.head ≤ value_of b.funnels.tail) × (value_of b.funnels.tail ≤ value_of b.funnels.head + b.cells.start.capacity)
+  pub items : value_of b.funnels.items ≡ value_of b.funnels.tail - value_of b.funnels.head
+  pub free : value_of b.funnels.free ≡ b.cells.start.capacity - (value_of b.funnels.tail - value_of b.funnels.head)
 
 -- all calls of a book, in order, each with the integer that it met
 abbrev pub answers_in : CoreLog → List Answered

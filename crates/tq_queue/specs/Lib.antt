@@ -1,3 +1,4 @@
+pub mod Fours
 pub mod Answers
 pub mod Seen
 pub mod Moves

@@ -11,7 +11,7 @@ use Rattle.fn_funnel.specs.declared.waiting.Added.{Added}
 use Rattle.fn_funnel.specs.Waiting.{Waited}
 use Rattle.tq_cells.specs.declared.entry.Entry.TheVariants.{Hold, Put}
 use Rattle.tq_cells.specs.Seen.{SeatView, Missed, EnteredBoth, Removed}
-use Rattle.tq_queue.specs.Seen.{CallerView}
+use Rattle.tq_queue.specs.Seen.{CallerView, with_free, with_items}
 
 -- the pass made exactly one call of this kind more, with amount 1, which met the reply
 abbrev pub Calls : PassView → Kind → ℕ → PassView → Type 0
@@ -41,30 +41,30 @@ module _ {T : Type 0} where
   pub record HasPut (p : CallerView T) (ticket : ℕ) (item : T) (q : CallerView T) : Type 0 where
     pub room : ℕ
     pub some : 0 < room
-    pub free : Calls p.free Sub room q.free
-    pub tail : Calls p.tail Add ticket q.tail
+    pub free : Calls p.passes.free Sub room q.passes.free
+    pub tail : Calls p.passes.tail Add ticket q.passes.tail
     pub before : ℕ
-    pub items : Calls p.items Add before q.items
-    pub head : q.head ≡ p.head
+    pub items : Calls p.passes.items Add before q.passes.items
+    pub head : q.passes.head ≡ p.passes.head
     pub seat : Placed p.seat ticket item q.seat
 
   -- The pass took the item of the ticket. Its three calls: there was an item, the ticket came, and there is more room
   pub record HasTaken (p : CallerView T) (ticket : ℕ) (item : T) (q : CallerView T) : Type 0 where
     pub there : ℕ
     pub some : 0 < there
-    pub items : Calls p.items Sub there q.items
-    pub head : Calls p.head Add ticket q.head
+    pub items : Calls p.passes.items Sub there q.passes.items
+    pub head : Calls p.passes.head Add ticket q.passes.head
     pub before : ℕ
-    pub free : Calls p.free Add before q.free
-    pub tail : q.tail ≡ p.tail
+    pub free : Calls p.passes.free Add before q.passes.free
+    pub tail : q.passes.tail ≡ p.passes.tail
     pub seat : Taken p.seat ticket item q.seat
 
   -- the pass made one call, by which there was no room
   pub record FoundFull (p q : CallerView T) : Type 0 where
-    pub free : Calls p.free Sub 0 q.free
-    pub rest : q ≡ record p { free = q.free }
+    pub free : Calls p.passes.free Sub 0 q.passes.free
+    pub rest : q ≡ with_free p q.passes.free
 
   -- the pass made one call, by which there was no item
   pub record FoundEmpty (p q : CallerView T) : Type 0 where
-    pub items : Calls p.items Sub 0 q.items
-    pub rest : q ≡ record p { items = q.items }
+    pub items : Calls p.passes.items Sub 0 q.passes.items
+    pub rest : q ≡ with_items p q.passes.items

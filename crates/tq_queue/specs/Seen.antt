@@ -16,30 +16,23 @@ use Rattle.fn_table.specs.Seen as funnel
 use Rattle.fn_layout.specs.Workers.{IsShapeFor}
 use Rattle.tq_cells.specs.Seen.{CellsView, SeatView, CellLog}
 use Rattle.tq_cells.specs.Seen as cells
+use Rattle.tq_queue.specs.declared.fours.Four.{Four}
+use Rattle.tq_queue.specs.Fours.{Which, Free, pick, AllFour, map_four}
 
 -- the queue: its cells and its four funnels
 pub record QueueView : Type 0 where
   pub cells : CellsView
-  pub tail : TableView
-  pub head : TableView
-  pub free : TableView
-  pub items : TableView
+  pub funnels : Four TableView
 
 -- a pass: its seat at the cells, and its pass of each funnel
 pub record CallerView (T : Type 0) : Type 0 where
   pub seat : SeatView T
-  pub tail : PassView
-  pub head : PassView
-  pub free : PassView
-  pub items : PassView
+  pub passes : Four PassView
 
 -- a closed queue: the log of its cells, and the book of each funnel
 pub record BookView (T : Type 0) : Type 0 where
   pub cells : CellLog T
-  pub tail : CoreLog
-  pub head : CoreLog
-  pub free : CoreLog
-  pub items : CoreLog
+  pub funnels : Four CoreLog
 
 -- the allowance of a pass in each funnel
 abbrev pub allowance : ℕ
@@ -52,17 +45,19 @@ pub record Begins (passes first : ℕ) (start : Start) : Type 0 where
   pub cap : start.cap ≡ no_cap
   pub allowances : start.allowances ≡ replicate passes allowance
 
--- the four funnels of a queue begin at 0, 0, the capacity and 0
-pub record AllBegin (capacity passes : ℕ) (t h f i : Start) : Type 0 where
-  pub tail : Begins passes 0 t
-  pub head : Begins passes 0 h
-  pub free : Begins passes capacity f
-  pub items : Begins passes 0 i
+-- the number at which each funnel of a queue begins
+abbrev pub first_of : ℕ → Which → ℕ
+first_of capacity Free = capacity
+first_of capacity _ = 0
+
+-- so do the four funnels of a queue
+abbrev pub AllBegin : ℕ → ℕ → (Which → Start) → Type 0
+AllBegin capacity passes starts = AllFour (λ w. Begins passes (first_of capacity w) (starts w))
 
 -- what a queue opens with
 pub record OpensWith (q : QueueView) (capacity passes : ℕ) : Type 0 where
   pub cells : q.cells.start ≡ record { capacity = capacity; seats = passes }
-  pub funnels : AllBegin capacity passes q.tail.start q.head.start q.free.start q.items.start
+  pub funnels : AllBegin capacity passes (λ w. (pick w q.funnels).start)
 
 -- the integer after all calls of a book
 abbrev pub value_of : CoreLog → ℕ
@@ -81,15 +76,22 @@ pub record HasClosed (t : TableView) (passes : List PassView) (book : CoreLog) :
 module _ {T : Type 0} where
   -- the pass is one of this queue
   abbrev pub IsOf : QueueView → CallerView T → Type 0
-  IsOf q p = cells.IsOf q.cells p.seat × funnel.IsOf q.tail p.tail × funnel.IsOf q.head p.head × funnel.IsOf q.free p.free × funnel.IsOf q.items p.items
+  IsOf q p = cells.IsOf q.cells p.seat × AllFour (λ w. funnel.IsOf (pick w q.funnels) (pick w p.passes))
+
+  -- the pass with another pass of `free`, or of `items`
+  abbrev pub with_free : CallerView T → PassView → CallerView T
+  with_free p free = record p { passes = record p.passes { free = free } }
+
+  abbrev pub with_items : CallerView T → PassView → CallerView T
+  with_items p items = record p { passes = record p.passes { items = items } }
 
   -- the least of what the pass has left of its four allowances
   abbrev pub left_in : CallerView T → ℕ
-  left_in p = min (min (left p.tail) (left p.head)) (min (left p.free) (left p.items))
+  left_in p = min (min (left p.passes.tail) (left p.passes.head)) (min (left p.passes.free) (left p.passes.items))
 
   -- a pass of a queue that opens: the seat and the four funnel passes of its number
   abbrev pub fresh : QueueView → ℕ → CallerView T
-  fresh q number = record { seat = cells.fresh q.cells number; tail = funnel.fresh q.tail number; head = funnel.fresh q.head number; free = funnel.fresh q.free number; items = funnel.fresh q.items number }
+  fresh q number = record { seat = cells.fresh q.cells number; passes = map_four (λ t. funnel.fresh t number) q.funnels }
 
   -- all passes of a queue that opens, by number
   abbrev pub fresh_passes : QueueView → List (CallerView T)
@@ -97,7 +99,7 @@ module _ {T : Type 0} where
 
   -- the pass has its whole allowance at each funnel
   abbrev pub IsWhole : CallerView T → Type 0
-  IsWhole p = (left p.tail ≡ allowance) × (left p.head ≡ allowance) × (left p.free ≡ allowance) × (left p.items ≡ allowance)
+  IsWhole p = AllFour (λ w. left (pick w p.passes) ≡ allowance)
 
   -- the passes are all that the queue has, by number
   abbrev pub AreAll : QueueView → List (CallerView T) → Type 0
@@ -107,7 +109,4 @@ module _ {T : Type 0} where
   pub record IsClosed (q : QueueView) (passes : List (CallerView T)) (book : BookView T) : Type 0 where
     pub start : book.cells.start ≡ q.cells.start
     pub cells : cells.IsClosed (map (λ p. p.seat) passes) book.cells
-    pub tail : HasClosed q.tail (map (λ p. p.tail) passes) book.tail
-    pub head : HasClosed q.head (map (λ p. p.head) passes) book.head
-    pub free : HasClosed q.free (map (λ p. p.free) passes) book.free
-    pub items : HasClosed q.items (map (λ p. p.items) passes) book.items
+    pub funnels : AllFour (λ w. HasClosed (pick w q.funnels) (map (λ p. pick w p.passes) passes) (pick w book.funnels))

@@ -2,6 +2,7 @@
 ghost use Rattle.std.specs.Prelude.{◌≡◌};
 ghost use Rattle.tq_queue.specs.Seen.{value_of};
 
+use crate::fours::Four;
 use fn_funnel::Book;
 use std::marker::Model;
 use tq_cells::CellBook;
@@ -10,10 +11,7 @@ use tq_cells::CellBook;
 #[derive(Drop)]
 pub struct QueueBook<T> {
     pub(crate) cells: CellBook<T>,
-    pub(crate) tail: Book,
-    pub(crate) head: Book,
-    pub(crate) free: Book,
-    pub(crate) items: Book,
+    pub(crate) funnels: Four<Book>,
 }
 
 impl<T> Model for QueueBook<T> {
@@ -21,14 +19,14 @@ impl<T> Model for QueueBook<T> {
 
     ghost Value = { BookView T };
 
-    ghost view = { λ b. record { cells = b.cells; tail = b.tail; head = b.head; free = b.free; items = b.items } };
+    ghost view = { λ b. record { cells = b.cells; funnels = b.funnels } };
 }
 
 impl<T> QueueBook<T> {
     /// How many items were put.
     pub fn puts(&self) -> u64
-        ensures { result ≡ value_of self.now.tail }
+        ensures { result ≡ value_of self.now.funnels.tail }
     {
-        self.tail.value()
+        self.funnels.tail.value()
     }
 }

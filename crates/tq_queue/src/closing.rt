@@ -1,14 +1,17 @@
 //! A queue ends.
 ghost use Rattle.std.specs.Prelude.{◌≡◌, ◌≤◌, All, length};
-ghost use Rattle.tq_queue.specs.Seen.{IsOf, AreAll, IsClosed};
+ghost use Rattle.tq_queue.specs.Fours.{pick, AllFour};
+ghost use Rattle.tq_queue.specs.Seen.{IsOf, AreAll, HasClosed, IsClosed};
 ghost use Rattle.tq_queue.specs.Kept.{Keeps};
 ghost use Rattle.tq_queue.specs.Laws.{IsSound};
-ghost use Rattle.tq_queue.specs.Shares.{HoldsParts};
+ghost use Rattle.tq_queue.specs.Shares.{HoldsParts, IsReady};
 
 use crate::books::QueueBook;
+use crate::fours::Four;
 use crate::passes::QueuePass;
 use crate::queues::TicketQueue;
-use crate::rooms::{Parts, Rooms};
+use crate::rooms::{Parts, Rooms, push_each};
+use fn_funnel::{Book, Funnel, Pass};
 
 // The seats, and the passes of each funnel, each in the room that was made for them.
 fn part<T>(rooms: Rooms<T>, passes: Vec<QueuePass<T>>) -> Parts<T>
@@ -18,31 +21,37 @@ fn part<T>(rooms: Rooms<T>, passes: Vec<QueuePass<T>>) -> Parts<T>
 {
     let Rooms {
         mut seats,
-        mut tails,
-        mut heads,
-        mut frees,
-        items: mut items_passes,
+        passes: mut parts,
     } = rooms;
     for pass in passes {
-        let QueuePass {
-            seat,
-            tail,
-            head,
-            free,
-            items,
-        } = pass;
+        let QueuePass { seat, passes: own } = pass;
         seats.push_reserved(seat);
-        tails.push_reserved(tail);
-        heads.push_reserved(head);
-        frees.push_reserved(free);
-        items_passes.push_reserved(items);
+        push_each(&mut parts, own);
     }
     Parts {
         seats,
-        tails,
-        heads,
-        frees,
-        items: items_passes,
+        passes: parts,
+    }
+}
+
+// Ends a funnel.
+fn close_one(funnel: Funnel, passes: Vec<Pass>) -> Book
+    requires { IsReady funnel passes.items }
+    ensures { HasClosed funnel passes.items result }
+{
+    funnel.close(passes)
+}
+
+// Ends each of four funnels.
+fn close_each(funnels: Four<Funnel>, passes: Four<Vec<Pass>>) -> Four<Book>
+    requires { AllFour (λ w. IsReady (pick w funnels) (pick w passes).items) }
+    ensures { AllFour (λ w. HasClosed (pick w funnels) (pick w passes).items (pick w result)) }
+{
+    Four {
+        tail: close_one(funnels.tail, passes.tail),
+        head: close_one(funnels.head, passes.head),
+        free: close_one(funnels.free, passes.free),
+        items: close_one(funnels.items, passes.items),
     }
 }
 
@@ -56,19 +65,13 @@ impl<T> TicketQueue<T> {
     {
         let TicketQueue {
             cells,
-            tail,
-            head,
-            free,
-            items,
+            funnels,
             rooms,
         } = self;
         let parts = part(rooms.into_inner(), passes);
         QueueBook {
             cells: cells.close(parts.seats),
-            tail: tail.close(parts.tails),
-            head: head.close(parts.heads),
-            free: free.close(parts.frees),
-            items: items.close(parts.items),
+            funnels: close_each(funnels, parts.passes),
         }
     }
 }

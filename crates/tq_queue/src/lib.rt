@@ -3,6 +3,7 @@
 
 mod books;
 mod closing;
+mod fours;
 mod opening;
 mod passes;
 mod putting;

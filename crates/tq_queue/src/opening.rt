@@ -1,18 +1,18 @@
 //! A queue opens.
-ghost use Rattle.std.specs.Prelude.{◌≡◌, ◌≤◌, ◌<◌, ◌+◌, ◌∷◌, All, IfOk, map};
-ghost use Rattle.std.specs.Vec.Iter.{into_iter_items, into_iter_len};
+ghost use Rattle.std.specs.Prelude.{◌≡◌, ◌≤◌, All, IfOk};
 ghost use Rattle.fn_table.specs.Seen as funnels;
 ghost use Rattle.tq_cells.specs.Seen as seats_of;
-ghost use Rattle.tq_queue.specs.Seen.{Begins, OpensWith, fresh_passes, IsWhole};
+ghost use Rattle.tq_queue.specs.Fours.{pick, AllFour};
+ghost use Rattle.tq_queue.specs.Seen.{Begins, AllBegin, OpensWith, fresh_passes, IsWhole};
 ghost use Rattle.tq_queue.specs.Kept.{AreSizes};
 
+use crate::fours::{Four, next_of, next_of_each};
 use crate::passes::QueuePass;
 use crate::queues::TicketQueue;
 use crate::rooms::Rooms;
 use fn_funnel::{Funnel, OpenFault, Pass, shape_for};
 use std::alloc::Global;
 use std::sync::Mutex;
-use std::vec::IntoIter;
 use tq_cells::{CellSeat, Cells, NoMemory};
 
 /// How many calls a pass may make on each funnel.
@@ -33,16 +33,34 @@ fn open_funnel(alloc: Global, passes: u32, first: u64) -> Result<(Funnel, Vec<Pa
     }
 }
 
-// The next of those that are left.
-fn next_of<X: Drop>(rest: &mut IntoIter<X>) -> X
-    requires { 0 < into_iter_len rest.old }
-    ensures items { into_iter_items rest.old ≡ result ∷ into_iter_items rest.new }
-    ensures len { into_iter_len rest.new + 1 ≡ into_iter_len rest.old }
+// The four funnels of a queue, each with its passes.
+fn open_funnels(
+    alloc: Global,
+    passes: u32,
+    capacity: u32,
+) -> Result<(Four<Funnel>, Four<Vec<Pass>>), NoMemory>
+    requires passes { (1 ≤ passes) × (passes ≤ 64) }
+    requires capacity { capacity ≤ 65536 }
+    ensures funnels { IfOk result (λ r. AllBegin capacity passes (λ w. (pick w r.0).start)) }
+    ensures passes { IfOk result (λ r. AllFour (λ w. funnels.AreOpened (pick w r.0) (pick w r.1).items)) }
 {
-    match rest.next() {
-        Some(item) => item,
-        None => unreachable!(),
-    }
+    let (tail, tails) = open_funnel(alloc, passes, 0)?;
+    let (head, heads) = open_funnel(alloc, passes, 0)?;
+    let (free, frees) = open_funnel(alloc, passes, u64::from(capacity))?;
+    let (items, item_passes) = open_funnel(alloc, passes, 0)?;
+    let funnels = Four {
+        tail,
+        head,
+        free,
+        items,
+    };
+    let passes = Four {
+        tail: tails,
+        head: heads,
+        free: frees,
+        items: item_passes,
+    };
+    Ok((funnels, passes))
 }
 
 // The passes: each has the seat and the funnel passes of its number.
@@ -51,34 +69,30 @@ fn deal<T: Drop>(
     queue: &TicketQueue<T>,
     count: u32,
     seats: Vec<CellSeat<T>>,
-    tails: Vec<Pass>,
-    heads: Vec<Pass>,
-    frees: Vec<Pass>,
-    items: Vec<Pass>,
+    passes: Four<Vec<Pass>>,
 ) -> Result<Vec<QueuePass<T>>, NoMemory>
     requires queue { OpensWith queue.now queue.now.cells.start.capacity count }
     requires sizes { AreSizes queue.now.cells.start }
     requires seats { seats.items ≡ seats_of.fresh_seats queue.now.cells }
-    requires tails { tails.items ≡ funnels.fresh_passes queue.now.tail }
-    requires heads { heads.items ≡ funnels.fresh_passes queue.now.head }
-    requires frees { frees.items ≡ funnels.fresh_passes queue.now.free }
-    requires items { items.items ≡ funnels.fresh_passes queue.now.items }
+    requires passes { AllFour (λ w. (pick w passes).items ≡ funnels.fresh_passes (pick w queue.now.funnels)) }
     ensures { IfOk result (λ all. all.items ≡ fresh_passes queue.now) }
 {
     let mut seats = seats.into_iter();
-    let mut tails = tails.into_iter();
-    let mut heads = heads.into_iter();
-    let mut frees = frees.into_iter();
-    let mut items = items.into_iter();
+    let tail = passes.tail.into_iter();
+    let head = passes.head.into_iter();
+    let free = passes.free.into_iter();
+    let items = passes.items.into_iter();
+    let mut rest = Four {
+        tail,
+        head,
+        free,
+        items,
+    };
     let mut all = Vec::new(alloc);
     for _number in 0..count {
-        let pass = QueuePass {
-            seat: next_of(&mut seats),
-            tail: next_of(&mut tails),
-            head: next_of(&mut heads),
-            free: next_of(&mut frees),
-            items: next_of(&mut items),
-        };
+        let seat = next_of(&mut seats);
+        let passes = next_of_each(&mut rest);
+        let pass = QueuePass { seat, passes };
         all.push(pass)?;
     }
     Ok(all)
@@ -98,29 +112,14 @@ impl<T: Drop> TicketQueue<T> {
         ensures whole { IfOk result (λ r. All IsWhole r.1.items) }
     {
         let (cells, seats) = Cells::open(alloc, capacity, passes)?;
-        let (tail, tails) = open_funnel(alloc, passes, 0)?;
-        let (head, heads) = open_funnel(alloc, passes, 0)?;
-        let (free, frees) = open_funnel(alloc, passes, u64::from(capacity))?;
-        let (items, item_passes) = open_funnel(alloc, passes, 0)?;
+        let (funnels, funnel_passes) = open_funnels(alloc, passes, capacity)?;
         let rooms = Mutex::new(Rooms::new(alloc)?);
         let queue = TicketQueue {
             cells,
-            tail,
-            head,
-            free,
-            items,
+            funnels,
             rooms,
         };
-        let all = deal(
-            alloc,
-            &queue,
-            passes,
-            seats,
-            tails,
-            heads,
-            frees,
-            item_passes,
-        )?;
+        let all = deal(alloc, &queue, passes, seats, funnel_passes)?;
         Ok((queue, all))
     }
 }

@@ -2,6 +2,7 @@
 ghost use Rattle.std.specs.Prelude.{◌≡◌};
 ghost use Rattle.tq_queue.specs.Seen.{left_in};
 
+use crate::fours::Four;
 use fn_funnel::Pass;
 use std::marker::Model;
 use tq_cells::CellSeat;
@@ -10,10 +11,7 @@ use tq_cells::CellSeat;
 #[derive(Drop)]
 pub struct QueuePass<T> {
     pub(crate) seat: CellSeat<T>,
-    pub(crate) tail: Pass,
-    pub(crate) head: Pass,
-    pub(crate) free: Pass,
-    pub(crate) items: Pass,
+    pub(crate) passes: Four<Pass>,
 }
 
 impl<T> Model for QueuePass<T> {
@@ -22,9 +20,9 @@ impl<T> Model for QueuePass<T> {
 
     ghost Value = { CallerView T };
 
-    ghost view = { λ p. record { seat = p.seat; tail = p.tail; head = p.head; free = p.free; items = p.items } };
+    ghost view = { λ p. record { seat = p.seat; passes = p.passes } };
 
-    ghost invariant = { λ p. Keeps (record { seat = p.seat; tail = p.tail; head = p.head; free = p.free; items = p.items }) };
+    ghost invariant = { λ p. Keeps (record { seat = p.seat; passes = p.passes }) };
 }
 
 impl<T> QueuePass<T> {
@@ -32,7 +30,8 @@ impl<T> QueuePass<T> {
     pub fn left(&self) -> u64
         ensures { result ≡ left_in self.now }
     {
-        let tickets = self.tail.allowance().min(self.head.allowance());
-        tickets.min(self.free.allowance().min(self.items.allowance()))
+        let passes = &self.passes;
+        let tickets = passes.tail.allowance().min(passes.head.allowance());
+        tickets.min(passes.free.allowance().min(passes.items.allowance()))
     }
 }

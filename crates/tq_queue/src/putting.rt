@@ -5,6 +5,7 @@ ghost use Rattle.tq_queue.specs.Seen.{IsOf, left_in};
 ghost use Rattle.tq_queue.specs.Claims.{MadePut, MetFull};
 ghost use Rattle.tq_queue.specs.Moves.{HasPut, FoundFull, Placed};
 
+use crate::fours::Four;
 use crate::passes::QueuePass;
 use crate::queues::TicketQueue;
 use crossbeam_utils::Backoff;
@@ -52,34 +53,34 @@ pub fn try_put<T, R: Wait>(
     ensures number { result.0.seat.number ≡ pass.seat.number }
     ensures left { left_in pass ≤ left_in result.0 + 1 }
 {
-    let QueuePass {
-        mut seat,
+    let QueuePass { mut seat, passes } = pass;
+    let Four {
         tail,
         head,
         free,
         items,
-    } = pass;
-    let (free, room) = sub(rt, &queue.free, free, 1);
+    } = passes;
+    let (free, room) = sub(rt, &queue.funnels.free, free, 1);
     if room.before == 0 {
-        let pass = QueuePass {
-            seat,
+        let passes = Four {
             tail,
             head,
             free,
             items,
         };
+        let pass = QueuePass { seat, passes };
         return (pass, Err(Full { item }));
     }
-    let (tail, added) = add(rt, &queue.tail, tail, 1);
+    let (tail, added) = add(rt, &queue.funnels.tail, tail, 1);
     let ticket = added.before;
     place_in_turn(rt, &queue.cells, &mut seat, ticket, item);
-    let (items, _) = add(rt, &queue.items, items, 1);
-    let pass = QueuePass {
-        seat,
+    let (items, _) = add(rt, &queue.funnels.items, items, 1);
+    let passes = Four {
         tail,
         head,
         free,
         items,
     };
+    let pass = QueuePass { seat, passes };
     (pass, Ok(ticket))
 }

@@ -1,4 +1,5 @@
 //! The queue.
+use crate::fours::Four;
 use crate::rooms::Rooms;
 use fn_funnel::Funnel;
 use std::marker::Model;
@@ -9,10 +10,7 @@ use tq_cells::Cells;
 #[derive(Drop)]
 pub struct TicketQueue<T> {
     pub(crate) cells: Cells<T>,
-    pub(crate) tail: Funnel,
-    pub(crate) head: Funnel,
-    pub(crate) free: Funnel,
-    pub(crate) items: Funnel,
+    pub(crate) funnels: Four<Funnel>,
     // Taken out at the closing alone. The lock is never taken: by it threads may share what they may not read.
     pub(crate) rooms: Mutex<Rooms<T>>,
 }
@@ -23,7 +21,7 @@ impl<T> Model for TicketQueue<T> {
 
     ghost Value = { QueueView };
 
-    ghost view = { λ q. record { cells = q.cells; tail = q.tail; head = q.head; free = q.free; items = q.items } };
+    ghost view = { λ q. record { cells = q.cells; funnels = q.funnels } };
 
-    ghost invariant = { λ q. IsOpen (record { cells = q.cells; tail = q.tail; head = q.head; free = q.free; items = q.items }) };
+    ghost invariant = { λ q. IsOpen (record { cells = q.cells; funnels = q.funnels }) };
 }

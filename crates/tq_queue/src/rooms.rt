@@ -1,7 +1,9 @@
 //! Room for all seats and funnel passes of a queue, so that its closing takes no memory.
-ghost use Rattle.std.specs.Prelude.{◌≡◌};
+ghost use Rattle.std.specs.Prelude.{◌≡◌, ◌<◌, ◌+◌, ◌∷◌, ◌++◌, [], IfOk, vec_len, vec_capacity};
+ghost use Rattle.tq_queue.specs.Fours.{pick, AllFour};
 ghost use Rattle.tq_queue.specs.Rooms.{HasRoom};
 
+use crate::fours::Four;
 use fn_funnel::Pass;
 use std::alloc::Global;
 use tq_cells::{CellSeat, NoMemory};
@@ -13,32 +15,53 @@ const MOST_PASSES: usize = 64;
 #[derive(Drop)]
 pub struct Rooms<T> {
     pub seats: Vec<CellSeat<T>>,
-    pub tails: Vec<Pass>,
-    pub heads: Vec<Pass>,
-    pub frees: Vec<Pass>,
-    pub items: Vec<Pass>,
-    pub ghost empty: { HasRoom seats × HasRoom tails × HasRoom heads × HasRoom frees × HasRoom items },
+    pub passes: Four<Vec<Pass>>,
+    pub ghost empty: { HasRoom seats × AllFour (λ w. HasRoom (pick w passes)) },
 }
 
 /// The seats of passes, and their passes of each funnel.
 #[derive(Drop)]
 pub struct Parts<T> {
     pub seats: Vec<CellSeat<T>>,
-    pub tails: Vec<Pass>,
-    pub heads: Vec<Pass>,
-    pub frees: Vec<Pass>,
-    pub items: Vec<Pass>,
+    pub passes: Four<Vec<Pass>>,
+}
+
+// An empty list, with its room.
+fn room<X: Drop>(alloc: Global) -> Result<Vec<X>, NoMemory>
+    ensures { IfOk result (λ list. HasRoom list) }
+{
+    Ok(Vec::with_capacity(alloc, MOST_PASSES)?)
 }
 
 impl<T: Drop> Rooms<T> {
     /// Empty lists, with their room.
     pub fn new(alloc: Global) -> Result<Rooms<T>, NoMemory> {
-        Ok(Rooms {
-            seats: Vec::with_capacity(alloc, MOST_PASSES)?,
-            tails: Vec::with_capacity(alloc, MOST_PASSES)?,
-            heads: Vec::with_capacity(alloc, MOST_PASSES)?,
-            frees: Vec::with_capacity(alloc, MOST_PASSES)?,
-            items: Vec::with_capacity(alloc, MOST_PASSES)?,
-        })
+        let seats = room(alloc)?;
+        let passes = Four {
+            tail: room(alloc)?,
+            head: room(alloc)?,
+            free: room(alloc)?,
+            items: room(alloc)?,
+        };
+        Ok(Rooms { seats, passes })
     }
+}
+
+/// Takes a pass of each funnel.
+pub fn push_each(all: &mut Four<Vec<Pass>>, passes: Four<Pass>)
+    requires { AllFour (λ w. vec_len (pick w all.old) < vec_capacity (pick w all.old)) }
+    ensures items { AllFour (λ w. (pick w all.new).items ≡ (pick w all.old).items ++ pick w passes ∷ []) }
+    ensures len { AllFour (λ w. vec_len (pick w all.new) ≡ vec_len (pick w all.old) + 1) }
+    ensures capacity { AllFour (λ w. vec_capacity (pick w all.new) ≡ vec_capacity (pick w all.old)) }
+{
+    let Four {
+        tail,
+        head,
+        free,
+        items,
+    } = passes;
+    all.tail.push_reserved(tail);
+    all.head.push_reserved(head);
+    all.free.push_reserved(free);
+    all.items.push_reserved(items);
 }

@@ -5,6 +5,7 @@ ghost use Rattle.tq_queue.specs.Seen.{IsOf, left_in};
 ghost use Rattle.tq_queue.specs.Claims.{MadeTake, MetEmpty};
 ghost use Rattle.tq_queue.specs.Moves.{HasTaken, FoundEmpty, Taken};
 
+use crate::fours::Four;
 use crate::passes::QueuePass;
 use crate::queues::TicketQueue;
 use crossbeam_utils::Backoff;
@@ -48,34 +49,34 @@ pub fn try_take<T, R: Wait>(
     ensures number { result.0.seat.number ≡ pass.seat.number }
     ensures left { left_in pass ≤ left_in result.0 + 1 }
 {
-    let QueuePass {
-        mut seat,
+    let QueuePass { mut seat, passes } = pass;
+    let Four {
         tail,
         head,
         free,
         items,
-    } = pass;
-    let (items, there) = sub(rt, &queue.items, items, 1);
+    } = passes;
+    let (items, there) = sub(rt, &queue.funnels.items, items, 1);
     if there.before == 0 {
-        let pass = QueuePass {
-            seat,
+        let passes = Four {
             tail,
             head,
             free,
             items,
         };
+        let pass = QueuePass { seat, passes };
         return (pass, Err(Empty));
     }
-    let (head, added) = add(rt, &queue.head, head, 1);
+    let (head, added) = add(rt, &queue.funnels.head, head, 1);
     let ticket = added.before;
     let item = remove_in_turn(rt, &queue.cells, &mut seat, ticket);
-    let (free, _) = add(rt, &queue.free, free, 1);
-    let pass = QueuePass {
-        seat,
+    let (free, _) = add(rt, &queue.funnels.free, free, 1);
+    let passes = Four {
         tail,
         head,
         free,
         items,
     };
+    let pass = QueuePass { seat, passes };
     (pass, Ok((ticket, item)))
 }

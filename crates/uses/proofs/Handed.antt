@@ -13,7 +13,7 @@ use Rattle.tq_cells.specs.Laws.{IsExact, puts}
 use Rattle.tq_cells.proofs.Tickets.{puts_and_takes_stay}
 use Rattle.tq_queue.specs.Answers.{Answered, raised, lowered, raised_by, lowered_by}
 use Rattle.tq_queue.specs.Kept.{own_answers}
-use Rattle.tq_queue.specs.Seen.{QueueView, CallerView, BookView, OpensWith, IsOf, IsClosed, value_of, fresh, fresh_passes}
+use Rattle.tq_queue.specs.Seen.{QueueView, CallerView, BookView, OpensWith, IsOf, IsClosed, value_of, fresh, fresh_passes, with_free, with_items}
 use Rattle.tq_queue.specs.Claims.{MadePut, MadeTake, MetFull, MetEmpty}
 use Rattle.tq_queue.specs.Laws.{IsSound}
 use Rattle.tq_queue.specs.declared.putting.Full.{Full}
@@ -52,13 +52,13 @@ module _ {T : Type 0} where
   pub record HasLooked (q : QueueView) (p r : CallerView T) : Type 0 where
     pub together : IsOf q r
     pub free : PassView
-    pub is : r ≡ record p { free = free }
+    pub is : r ≡ with_free p free
 
   pub looked_again : (q : QueueView) (p r s : CallerView T) (item : T) (put : Result ℕ (Full T)) (full : Full T) → HasLooked q p r → IsOf q s → put ≡ Err full → MatchResult put (λ ticket. MadePut r ticket item s) (λ full. (full.item ≡ item) × MetFull r s)
       → HasLooked q p s × (full.item ≡ item)
   looked_again q p r s item put full was together is outcome =
       let found : (full.item ≡ item) × MetFull r s = subst (λ (x : Result ℕ (Full T)). MatchResult x (λ ticket. MadePut r ticket item s) (λ full. (full.item ≡ item) × MetFull r s)) is outcome in
-      (record { together = together; free = s.free; is = found.1.1 ∙ ap (λ (x : CallerView T). record x { free = s.free }) was.is }, found.0)
+      (record { together = together; free = s.passes.free; is = found.1.1 ∙ ap (λ (x : CallerView T). with_free x s.passes.free) was.is }, found.0)
 
   pub has_given : (q : QueueView) (p r s : CallerView T) (item given : T) (put : Result ℕ (Full T)) (ticket : ℕ) → HasLooked q p r → IsOf q s → s.seat.number ≡ r.seat.number → item ≡ given → put ≡ Ok ticket
       → MatchResult put (λ ticket. MadePut r ticket item s) (λ full. (full.item ≡ item) × MetFull r s) → HasGiven q p given s
@@ -76,12 +76,12 @@ module _ {T : Type 0} where
   pub record HasSought (q : QueueView) (p r : CallerView T) : Type 0 where
     pub together : IsOf q r
     pub items : PassView
-    pub is : r ≡ record p { items = items }
+    pub is : r ≡ with_items p items
 
   pub sought_again : (q : QueueView) (p r s : CallerView T) (taken : Result (ℕ × T) Empty) (empty : Empty) → HasSought q p r → IsOf q s → taken ≡ Err empty → MatchResult taken (λ both. MadeTake r both.0 both.1 s) (λ _. MetEmpty r s) → HasSought q p s
   sought_again q p r s taken empty was together is outcome =
       let found : MetEmpty r s = subst (λ (x : Result (ℕ × T) Empty). MatchResult x (λ both. MadeTake r both.0 both.1 s) (λ _. MetEmpty r s)) is outcome in
-      record { together = together; items = s.items; is = found.1 ∙ ap (λ (x : CallerView T). record x { items = s.items }) was.is }
+      record { together = together; items = s.passes.items; is = found.1 ∙ ap (λ (x : CallerView T). with_items x s.passes.items) was.is }
 
   pub has_got : (q : QueueView) (p r s : CallerView T) (taken : Result (ℕ × T) Empty) (ticket : ℕ) (item : T) → HasSought q p r → IsOf q s → s.seat.number ≡ r.seat.number → taken ≡ Ok (ticket, item)
       → MatchResult taken (λ both. MadeTake r both.0 both.1 s) (λ _. MetEmpty r s) → HasGot q p item s
@@ -101,18 +101,18 @@ module _ {T : Type 0} where
 
   module _ (q : QueueView) (giver taker first second : CallerView T) (item got : T) (book : BookView T) (opens : OpensWith q 1 2) (giver_is : giver ≡ fresh q 0) (taker_is : taker ≡ fresh q 1)
       (gave : HasGiven q giver item first) (took : HasGot q taker got second) (closed : IsClosed q (first ∷ second ∷ []) book) (sound : IsSound book) where
-    tail_is : IsBookOf q.tail first.tail second.tail book.tail
+    tail_is : IsBookOf q.funnels.tail first.passes.tail second.passes.tail book.funnels.tail
     tail_is =
-        is_book q.tail first.tail second.tail (first.tail ∷ second.tail ∷ []) book.tail refl opens.funnels.tail.shape.0 gave.together.1 (gave.put.0.drawn.same.1 ∙ ap (λ (p : CallerView T). p.tail.number) giver_is)
-        took.together.1 (ap (λ (p : PassView). p.number) took.taken.0.kept ∙ ap (λ (p : CallerView T). p.tail.number) taker_is) closed.tail
+        is_book q.funnels.tail first.passes.tail second.passes.tail (first.passes.tail ∷ second.passes.tail ∷ []) book.funnels.tail refl opens.funnels.0.shape.0 gave.together.1.0 (gave.put.0.drawn.same.1 ∙ ap (λ (p : CallerView T). p.passes.tail.number) giver_is)
+        took.together.1.0 (ap (λ (p : PassView). p.number) took.taken.0.kept ∙ ap (λ (p : CallerView T). p.passes.tail.number) taker_is) closed.funnels.0
 
-    pub one_ticket : value_of book.tail ≡ 1
+    pub one_ticket : value_of book.funnels.tail ≡ 1
     one_ticket =
-        let up = added_up giver.tail first.tail gave.ticket (ap (λ (p : CallerView T). own_answers p.tail) giver_is ∙ none_yet q.tail 0) gave.put.0.drawn in
-        let none : own_answers second.tail ≡ [] = ap own_answers took.taken.0.kept ∙ ap (λ (p : CallerView T). own_answers p.tail) taker_is ∙ none_yet q.tail 1 in
-        let opening : q.tail.start.opening ≡ 0 = opens.funnels.tail.opening in
-        let cap : q.tail.start.cap ≡ 9223372036854775807 = opens.funnels.tail.cap in
-        omega (arith, count_of q.tail first.tail second.tail 1 0 book.tail tail_is up.0 up.1 (ap raised none) (ap lowered none) (omega (arith, opening, cap)), opening)
+        let up = added_up giver.passes.tail first.passes.tail gave.ticket (ap (λ (p : CallerView T). own_answers p.passes.tail) giver_is ∙ none_yet q.funnels.tail 0) gave.put.0.drawn in
+        let none : own_answers second.passes.tail ≡ [] = ap own_answers took.taken.0.kept ∙ ap (λ (p : CallerView T). own_answers p.passes.tail) taker_is ∙ none_yet q.funnels.tail 1 in
+        let opening : q.funnels.tail.start.opening ≡ 0 = opens.funnels.0.opening in
+        let cap : q.funnels.tail.start.cap ≡ 9223372036854775807 = opens.funnels.0.cap in
+        omega (arith, count_of q.funnels.tail first.passes.tail second.passes.tail 1 0 book.funnels.tail tail_is up.0 up.1 (ap raised none) (ap lowered none) (omega (arith, opening, cap)), opening)
 
     pub same_item : got ≡ item
     same_item =
@@ -120,7 +120,7 @@ module _ {T : Type 0} where
         let log : List (Event T) = book.cells.log in
         let put = stays_there first.seat.log log gave.ticket item book.cells.start exact (closed.cells.each 0 first.seat refl).begins gave.put.1.under in
         let taken = stays_there second.seat.log log took.ticket got book.cells.start exact (closed.cells.each 1 second.seat refl).begins took.taken.1.under in
-        let zero_put : gave.ticket ≡ 0 = only_zero gave.ticket (value_of book.tail) (length (puts gave.ticket log)) (ap length put) one_ticket (sound.puts gave.ticket) in
-        let zero_taken : took.ticket ≡ 0 = only_zero took.ticket (value_of book.tail) (length (puts took.ticket log)) (ap length taken) one_ticket (sound.puts took.ticket) in
+        let zero_put : gave.ticket ≡ 0 = only_zero gave.ticket (value_of book.funnels.tail) (length (puts gave.ticket log)) (ap length put) one_ticket (sound.puts gave.ticket) in
+        let zero_taken : took.ticket ≡ 0 = only_zero took.ticket (value_of book.funnels.tail) (length (puts took.ticket log)) (ap length taken) one_ticket (sound.puts took.ticket) in
         let both : got ∷ [] ≡ item ∷ [] = sym taken ∙ ap (λ n. puts n log) (zero_taken ∙ sym zero_put) ∙ put in
         cc

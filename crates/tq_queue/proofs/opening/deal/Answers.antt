@@ -4,8 +4,9 @@ use Rattle.std.specs.Vec.Iter.{into_iter_items, into_iter_len}
 use Rattle.running.specs.Running.{numbers_from}
 use Rattle.fn_table.specs.Seen as funnels
 use Rattle.tq_cells.specs.Seen as seats_of
+use Rattle.tq_queue.specs.Fours.{pick}
 use Rattle.tq_queue.specs.Seen.{QueueView, CallerView, fresh, fresh_passes}
-use Rattle.tq_queue.proofs.Dealing.{left_all, dealt, left_next, all_dealt, all_first, kept_dealt, passes_of, seats_are}
+use Rattle.tq_queue.proofs.Dealing.{left_all, dealt, left_next, each_dealt, each_left, all_dealt, all_first, kept_dealt, passes_of, seats_are}
 use Rattle.tq_queue.proofs.opening.deal.Goals as goal
 
 pub loop-number-init : goal.loop-number-init
@@ -14,10 +15,12 @@ loop-number-init g c =
     let n : ℕ = c.args.count in
     let f = c.requires.queue.funnels in (
       left_all (seats_of.fresh q.cells) n q.cells.start.seats (into_iter_items c.into_iter-seats.result) (into_iter_len c.into_iter-seats.result) (c.into_iter-seats.ensures.rest ∙ c.requires.seats) (seats_are q q.cells.start.capacity n c.requires.queue) (c.into_iter-seats.ensures.len ∙ c.args.seats.ok.0 ∙ ap length (sym c.into_iter-seats.ensures.rest)),
-      left_all (funnels.fresh q.tail) n q.tail.start.shape.passes (into_iter_items c.into_iter-tails.result) (into_iter_len c.into_iter-tails.result) (c.into_iter-tails.ensures.rest ∙ c.requires.tails) (passes_of q.tail n 0 f.tail) (c.into_iter-tails.ensures.len ∙ c.args.tails.ok.0 ∙ ap length (sym c.into_iter-tails.ensures.rest)),
-      left_all (funnels.fresh q.head) n q.head.start.shape.passes (into_iter_items c.into_iter-heads.result) (into_iter_len c.into_iter-heads.result) (c.into_iter-heads.ensures.rest ∙ c.requires.heads) (passes_of q.head n 0 f.head) (c.into_iter-heads.ensures.len ∙ c.args.heads.ok.0 ∙ ap length (sym c.into_iter-heads.ensures.rest)),
-      left_all (funnels.fresh q.free) n q.free.start.shape.passes (into_iter_items c.into_iter-frees.result) (into_iter_len c.into_iter-frees.result) (c.into_iter-frees.ensures.rest ∙ c.requires.frees) (passes_of q.free n q.cells.start.capacity f.free) (c.into_iter-frees.ensures.len ∙ c.args.frees.ok.0 ∙ ap length (sym c.into_iter-frees.ensures.rest)),
-      left_all (funnels.fresh q.items) n q.items.start.shape.passes (into_iter_items c.into_iter-items.result) (into_iter_len c.into_iter-items.result) (c.into_iter-items.ensures.rest ∙ c.requires.items) (passes_of q.items n 0 f.items) (c.into_iter-items.ensures.len ∙ c.args.items.ok.0 ∙ ap length (sym c.into_iter-items.ensures.rest)),
+      (
+        left_all (funnels.fresh q.funnels.tail) n q.funnels.tail.start.shape.passes (into_iter_items c.into_iter-tail.result) (into_iter_len c.into_iter-tail.result) (c.into_iter-tail.ensures.rest ∙ c.requires.passes.0) (passes_of q.funnels.tail n 0 f.0) (c.into_iter-tail.ensures.len ∙ c.args.passes.tail.ok.0 ∙ ap length (sym c.into_iter-tail.ensures.rest)),
+        left_all (funnels.fresh q.funnels.head) n q.funnels.head.start.shape.passes (into_iter_items c.into_iter-head.result) (into_iter_len c.into_iter-head.result) (c.into_iter-head.ensures.rest ∙ c.requires.passes.1) (passes_of q.funnels.head n 0 f.1) (c.into_iter-head.ensures.len ∙ c.args.passes.head.ok.0 ∙ ap length (sym c.into_iter-head.ensures.rest)),
+        left_all (funnels.fresh q.funnels.free) n q.funnels.free.start.shape.passes (into_iter_items c.into_iter-free.result) (into_iter_len c.into_iter-free.result) (c.into_iter-free.ensures.rest ∙ c.requires.passes.2) (passes_of q.funnels.free n q.cells.start.capacity f.2) (c.into_iter-free.ensures.len ∙ c.args.passes.free.ok.0 ∙ ap length (sym c.into_iter-free.ensures.rest)),
+        left_all (funnels.fresh q.funnels.items) n q.funnels.items.start.shape.passes (into_iter_items c.into_iter-items.result) (into_iter_len c.into_iter-items.result) (c.into_iter-items.ensures.rest ∙ c.requires.passes.3) (passes_of q.funnels.items n 0 f.3) (c.into_iter-items.ensures.len ∙ c.args.passes.items.ok.0 ∙ ap length (sym c.into_iter-items.ensures.rest)),
+      ),
       all_first (fresh q) n q.cells.start.seats c.new-all.result.items (seats_are q q.cells.start.capacity n c.requires.queue) c.new-all.ensures.items,
     )
 
@@ -27,12 +30,7 @@ invariant_of-pass g c =
     let n : ℕ = c.args.count in
     let k : ℕ = c.loop-number._number in
     let all = c.loop-number.invariant in
-    (kept_dealt q n c.requires.queue c.requires.sizes k c.next_of.result c.next_of-in-loop-number.result c.next_of-in-loop-number-2.result c.next_of-in-loop-number-3.result c.next_of-in-loop-number-4.result
-    (dealt (seats_of.fresh q.cells) k n (into_iter_items c.loop-number.seats) (into_iter_items c.next_of.new.rest) (into_iter_len c.loop-number.seats) (into_iter_len c.next_of.new.rest) c.next_of.result c.loop-number-test.true all.0 c.next_of.ensures.items c.next_of.ensures.len)
-    (dealt (funnels.fresh q.tail) k n (into_iter_items c.loop-number.tails) (into_iter_items c.next_of-in-loop-number.new.rest) (into_iter_len c.loop-number.tails) (into_iter_len c.next_of-in-loop-number.new.rest) c.next_of-in-loop-number.result c.loop-number-test.true all.1 c.next_of-in-loop-number.ensures.items c.next_of-in-loop-number.ensures.len)
-    (dealt (funnels.fresh q.head) k n (into_iter_items c.loop-number.heads) (into_iter_items c.next_of-in-loop-number-2.new.rest) (into_iter_len c.loop-number.heads) (into_iter_len c.next_of-in-loop-number-2.new.rest) c.next_of-in-loop-number-2.result c.loop-number-test.true all.2 c.next_of-in-loop-number-2.ensures.items c.next_of-in-loop-number-2.ensures.len)
-    (dealt (funnels.fresh q.free) k n (into_iter_items c.loop-number.frees) (into_iter_items c.next_of-in-loop-number-3.new.rest) (into_iter_len c.loop-number.frees) (into_iter_len c.next_of-in-loop-number-3.new.rest) c.next_of-in-loop-number-3.result c.loop-number-test.true all.3 c.next_of-in-loop-number-3.ensures.items c.next_of-in-loop-number-3.ensures.len)
-    (dealt (funnels.fresh q.items) k n (into_iter_items c.loop-number.items) (into_iter_items c.next_of-in-loop-number-4.new.rest) (into_iter_len c.loop-number.items) (into_iter_len c.next_of-in-loop-number-4.new.rest) c.next_of-in-loop-number-4.result c.loop-number-test.true all.4 c.next_of-in-loop-number-4.ensures.items c.next_of-in-loop-number-4.ensures.len)).1
+    (kept_dealt q n c.requires.queue c.requires.sizes k c.next_of-seat.result c.next_of_each-passes.result (dealt (seats_of.fresh q.cells) k n (into_iter_items c.loop-number.seats) (into_iter_items c.next_of-seat.new.rest) (into_iter_len c.loop-number.seats) (into_iter_len c.next_of-seat.new.rest) c.next_of-seat.result c.loop-number-test.true all.0 c.next_of-seat.ensures.items c.next_of-seat.ensures.len) (each_dealt q k n (λ w. into_iter_items (pick w c.loop-number.rest)) (λ w. into_iter_items (pick w c.next_of_each-passes.new.rest)) (λ w. into_iter_len (pick w c.loop-number.rest)) (λ w. into_iter_len (pick w c.next_of_each-passes.new.rest)) c.next_of_each-passes.result c.loop-number-test.true all.1 c.next_of_each-passes.ensures.items c.next_of_each-passes.ensures.len)).1
 
 pub loop-number-preserved : goal.loop-number-preserved
 loop-number-preserved g c =
@@ -40,18 +38,9 @@ loop-number-preserved g c =
     let n : ℕ = c.args.count in
     let k : ℕ = c.loop-number._number in
     let all = c.loop-number.invariant in
-    let p : CallerView g.row.T.Denot = record { seat = c.next_of.result; tail = c.next_of-in-loop-number.result; head = c.next_of-in-loop-number-2.result; free = c.next_of-in-loop-number-3.result; items = c.next_of-in-loop-number-4.result } in
-    let made =
-    (kept_dealt q n c.requires.queue c.requires.sizes k c.next_of.result c.next_of-in-loop-number.result c.next_of-in-loop-number-2.result c.next_of-in-loop-number-3.result c.next_of-in-loop-number-4.result
-    (dealt (seats_of.fresh q.cells) k n (into_iter_items c.loop-number.seats) (into_iter_items c.next_of.new.rest) (into_iter_len c.loop-number.seats) (into_iter_len c.next_of.new.rest) c.next_of.result c.loop-number-test.true all.0 c.next_of.ensures.items c.next_of.ensures.len)
-    (dealt (funnels.fresh q.tail) k n (into_iter_items c.loop-number.tails) (into_iter_items c.next_of-in-loop-number.new.rest) (into_iter_len c.loop-number.tails) (into_iter_len c.next_of-in-loop-number.new.rest) c.next_of-in-loop-number.result c.loop-number-test.true all.1 c.next_of-in-loop-number.ensures.items c.next_of-in-loop-number.ensures.len)
-    (dealt (funnels.fresh q.head) k n (into_iter_items c.loop-number.heads) (into_iter_items c.next_of-in-loop-number-2.new.rest) (into_iter_len c.loop-number.heads) (into_iter_len c.next_of-in-loop-number-2.new.rest) c.next_of-in-loop-number-2.result c.loop-number-test.true all.2 c.next_of-in-loop-number-2.ensures.items c.next_of-in-loop-number-2.ensures.len)
-    (dealt (funnels.fresh q.free) k n (into_iter_items c.loop-number.frees) (into_iter_items c.next_of-in-loop-number-3.new.rest) (into_iter_len c.loop-number.frees) (into_iter_len c.next_of-in-loop-number-3.new.rest) c.next_of-in-loop-number-3.result c.loop-number-test.true all.3 c.next_of-in-loop-number-3.ensures.items c.next_of-in-loop-number-3.ensures.len)
-    (dealt (funnels.fresh q.items) k n (into_iter_items c.loop-number.items) (into_iter_items c.next_of-in-loop-number-4.new.rest) (into_iter_len c.loop-number.items) (into_iter_len c.next_of-in-loop-number-4.new.rest) c.next_of-in-loop-number-4.result c.loop-number-test.true all.4 c.next_of-in-loop-number-4.ensures.items c.next_of-in-loop-number-4.ensures.len)).0 in (
-      left_next (seats_of.fresh q.cells) k n (into_iter_items c.loop-number.seats) (into_iter_items c.next_of.new.rest) (into_iter_len c.loop-number.seats) (into_iter_len c.next_of.new.rest) c.next_of.result c.loop-number-test.true all.0 c.next_of.ensures.items c.next_of.ensures.len,
-      left_next (funnels.fresh q.tail) k n (into_iter_items c.loop-number.tails) (into_iter_items c.next_of-in-loop-number.new.rest) (into_iter_len c.loop-number.tails) (into_iter_len c.next_of-in-loop-number.new.rest) c.next_of-in-loop-number.result c.loop-number-test.true all.1 c.next_of-in-loop-number.ensures.items c.next_of-in-loop-number.ensures.len,
-      left_next (funnels.fresh q.head) k n (into_iter_items c.loop-number.heads) (into_iter_items c.next_of-in-loop-number-2.new.rest) (into_iter_len c.loop-number.heads) (into_iter_len c.next_of-in-loop-number-2.new.rest) c.next_of-in-loop-number-2.result c.loop-number-test.true all.2 c.next_of-in-loop-number-2.ensures.items c.next_of-in-loop-number-2.ensures.len,
-      left_next (funnels.fresh q.free) k n (into_iter_items c.loop-number.frees) (into_iter_items c.next_of-in-loop-number-3.new.rest) (into_iter_len c.loop-number.frees) (into_iter_len c.next_of-in-loop-number-3.new.rest) c.next_of-in-loop-number-3.result c.loop-number-test.true all.3 c.next_of-in-loop-number-3.ensures.items c.next_of-in-loop-number-3.ensures.len,
-      left_next (funnels.fresh q.items) k n (into_iter_items c.loop-number.items) (into_iter_items c.next_of-in-loop-number-4.new.rest) (into_iter_len c.loop-number.items) (into_iter_len c.next_of-in-loop-number-4.new.rest) c.next_of-in-loop-number-4.result c.loop-number-test.true all.4 c.next_of-in-loop-number-4.ensures.items c.next_of-in-loop-number-4.ensures.len,
-      ap (λ (xs : List (CallerView g.row.T.Denot)). xs ++ map (fresh q) (numbers_from (k + 1) (n - (k + 1)))) c.in_ok-push.ensures.items ∙ all_dealt (fresh q) k n c.loop-number.all.items (fresh_passes q) p c.loop-number-test.true made all.5,
+    let p : CallerView g.row.T.Denot = record { seat = c.next_of-seat.result; passes = c.next_of_each-passes.result } in
+    let made = (kept_dealt q n c.requires.queue c.requires.sizes k c.next_of-seat.result c.next_of_each-passes.result (dealt (seats_of.fresh q.cells) k n (into_iter_items c.loop-number.seats) (into_iter_items c.next_of-seat.new.rest) (into_iter_len c.loop-number.seats) (into_iter_len c.next_of-seat.new.rest) c.next_of-seat.result c.loop-number-test.true all.0 c.next_of-seat.ensures.items c.next_of-seat.ensures.len) (each_dealt q k n (λ w. into_iter_items (pick w c.loop-number.rest)) (λ w. into_iter_items (pick w c.next_of_each-passes.new.rest)) (λ w. into_iter_len (pick w c.loop-number.rest)) (λ w. into_iter_len (pick w c.next_of_each-passes.new.rest)) c.next_of_each-passes.result c.loop-number-test.true all.1 c.next_of_each-passes.ensures.items c.next_of_each-passes.ensures.len)).0 in (
+      left_next (seats_of.fresh q.cells) k n (into_iter_items c.loop-number.seats) (into_iter_items c.next_of-seat.new.rest) (into_iter_len c.loop-number.seats) (into_iter_len c.next_of-seat.new.rest) c.next_of-seat.result c.loop-number-test.true all.0 c.next_of-seat.ensures.items c.next_of-seat.ensures.len,
+      each_left q k n (λ w. into_iter_items (pick w c.loop-number.rest)) (λ w. into_iter_items (pick w c.next_of_each-passes.new.rest)) (λ w. into_iter_len (pick w c.loop-number.rest)) (λ w. into_iter_len (pick w c.next_of_each-passes.new.rest)) c.next_of_each-passes.result c.loop-number-test.true all.1 c.next_of_each-passes.ensures.items c.next_of_each-passes.ensures.len,
+      ap (λ (xs : List (CallerView g.row.T.Denot)). xs ++ map (fresh q) (numbers_from (k + 1) (n - (k + 1)))) c.in_ok-push.ensures.items ∙ all_dealt (fresh q) k n c.loop-number.all.items (fresh_passes q) p c.loop-number-test.true made all.2,
     )

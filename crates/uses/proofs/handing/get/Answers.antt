@@ -5,7 +5,7 @@ use Rattle.uses.proofs.handing.get.Goals.{then-left-gt0+in-Err, else-left-gt0}
 use Rattle.uses.proofs.handing.get.Goals as goal
 
 pub loop-init : goal.loop-init
-loop-init g c = (tt, tt, record { together = c.requires; items = c.args.pass.items; is = refl })
+loop-init g c = (tt, tt, record { together = c.requires; items = c.args.pass.passes.items; is = refl })
 
 pub returns-in-Ok : goal.returns-in-Ok
 returns-in-Ok g c =

@@ -5,7 +5,7 @@ use Rattle.uses.proofs.handing.give.Goals.{then-left-gt0+in-Err, else-left-gt0}
 use Rattle.uses.proofs.handing.give.Goals as goal
 
 pub loop-init : goal.loop-init
-loop-init g c = (tt, tt, record { together = c.requires; free = c.args.pass.free; is = refl }, refl)
+loop-init g c = (tt, tt, record { together = c.requires; free = c.args.pass.passes.free; is = refl }, refl)
 
 pub returns-in-Ok : goal.returns-in-Ok
 returns-in-Ok g c =
