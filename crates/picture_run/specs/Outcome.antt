@@ -36,13 +36,16 @@ IsMissing (Drawing workers name) t = number_of name t.tenants ≡ None
 abbrev pub IsRefused : Picture → Input → Input → Refusal → Type 0
 IsRefused picture trace report LongTrace = IsLong TRACE_LIMIT trace × ReadsNothing report
 IsRefused picture trace report LongReport = (t : Content) × HasTrace picture trace t × IsLong REPORT_LIMIT report
-IsRefused picture trace report (ByTrace found) = (bytes : List ℕ) × ReadsAll TRACE_LIMIT trace bytes × IsFirstFault (workers_of picture) (records_of bytes) found × ReadsNothing report
+IsRefused picture trace report (ByTrace found) =
+    (bytes : List ℕ) × ReadsAll TRACE_LIMIT trace bytes × IsFirstFault (workers_of picture) (records_of bytes) found × ReadsNothing report
 IsRefused picture trace report ByReport = (t : Content) × (bytes : List ℕ) × HasTrace picture trace t × ReadsAll REPORT_LIMIT report bytes
-IsRefused picture trace report ByTenant = (t : Content) × (answers : List Moved) × (finals : List ℕ) × HasTrace picture trace t × HasReport report t answers finals × IsMissing picture t
+IsRefused picture trace report ByTenant =
+    (t : Content) × (answers : List Moved) × (finals : List ℕ) × HasTrace picture trace t × HasReport report t answers finals × IsMissing picture t
 
 -- the text of a picture, from the trace and the report that were read
 abbrev pub Draws : Picture → Input → Input → List ℕ → Type 0
-Draws picture trace report text = (t : Content) × (answers : List Moved) × (finals : List ℕ) × HasTrace picture trace t × HasReport report t answers finals × Shows picture t answers finals text
+Draws picture trace report text =
+    (t : Content) × (answers : List Moved) × (finals : List ℕ) × HasTrace picture trace t × HasReport report t answers finals × Shows picture t answers finals text
 
 -- how a run ends that has no text
 abbrev pub Stops : Option Picture → Input → Input → Ending → Type 0

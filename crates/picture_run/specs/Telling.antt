@@ -54,7 +54,8 @@ GivesNoTrace workers input _ = ⊥
 
 -- the trace that a source gives
 abbrev pub GivesTrace : ℕ → Input → Result Trace Ending → Type 0
-GivesTrace workers input (Ok trace) = ((bytes : List ℕ) × ReadsAll TRACE_LIMIT input bytes × IsTrace workers (records_of bytes) (content trace)) × IsSoundTrace workers (content trace)
+GivesTrace workers input (Ok trace) =
+    ((bytes : List ℕ) × ReadsAll TRACE_LIMIT input bytes × IsTrace workers (records_of bytes) (content trace)) × IsSoundTrace workers (content trace)
 GivesTrace workers input (Err ending) = GivesNoTrace workers input ending
 
 -- bytes that aren't read as a report

@@ -39,4 +39,5 @@ drawing_text workers name trace answers finals number = svg name (heading_at tra
 -- the text of a picture: all lines, or the drawing of the tenant that is asked for
 abbrev pub Shows : Picture → Content → List Moved → List ℕ → List ℕ → Type 0
 Shows (Lines workers) trace answers finals text = text ≡ lines_text trace answers finals
-Shows (Drawing workers name) trace answers finals text = (number : ℕ) × (number_of name trace.tenants ≡ Some number) × (text ≡ drawing_text workers name trace answers finals number)
+Shows (Drawing workers name) trace answers finals text =
+    (number : ℕ) × (number_of name trace.tenants ≡ Some number) × (text ≡ drawing_text workers name trace answers finals number)
