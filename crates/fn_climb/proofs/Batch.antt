@@ -65,7 +65,7 @@ module _ (p : PassView) (c : Course) (h : Holds p c) (free : c.word ≡ None) wh
     based_few = (h.chosen.rows c.level (placed p c h).1 fills).0
 
   -- what a call of the same pass stands at
-  held_there : (g : Stage) → held_at (at_g g) c.level ≡ g
+  pub held_there : (g : Stage) → held_at (at_g g) c.level ≡ g
   held_there g = get_or-set_same c.stages (c.level - 1) g Out (let l = placed p c h in omega (arith, h.course.three, l.1.0, l.1.1, p.seen.start.shape.levels_in_range))
 
   -- a step to another stage at the level

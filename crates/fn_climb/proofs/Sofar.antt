@@ -94,9 +94,13 @@ SoFar p r = (log : List Event) × (r ≡ at p log) × SoFarAt p log
 pub sofar_none : (p : PendingView) → SoFar p p.pass
 sofar_none p = (p.seen.log, refl, record { steps = []; goes = refl; few = λ n rows. omega arith; once = inl refl; begins = prefix_refl p.seen.log; same = record { made = refl; last = refl; left = refl } })
 
+-- steps, and then others
+pub goes_both : (p : PendingView) (r s : PassView) (steps more : List Move) → GoesOn p steps r → GoesOn (on p r) more s → GoesOn p (steps ++ more) s
+goes_both p r s [] more is goes = subst (λ (v : PassView). GoesOn (on p v) more s) is goes
+goes_both p r s (step ∷ steps) more goes after = (goes.0, goes.1, goes.2, goes_both (on p goes.0) r s steps more goes.3 after)
+
 goes_more : (p : PendingView) (r s : PassView) (steps : List Move) → GoesOn p steps r → (w : Went (on p r) told.Going s) → GoesOn p (steps ++ w.step ∷ []) s
-goes_more p r s [] is w = let last = subst (λ (v : PassView). (x : Went (on p v) told.Going s) × (x.step ≡ w.step)) is (w, refl) in (s, last.0, last.1, refl)
-goes_more p r s (step ∷ steps) goes w = (goes.0, goes.1, goes.2, goes_more (on p goes.0) r s steps goes.3 w)
+goes_more p r s steps goes w = goes_both p r s steps (w.step ∷ []) goes (s, w, refl, refl)
 
 -- one more step, which may be an exchange
 exchanges_more : (steps : List Move) (step : Move) → exchanges (steps ++ step ∷ []) ≡ exchanges steps + (if is_exchange step then 1 else 0)

@@ -4,6 +4,7 @@
 mod at_level;
 mod beginning;
 mod course;
+mod leading;
 mod pending;
 mod polling;
 mod publishing;

@@ -5,8 +5,8 @@ ghost use Rattle.fn_climb.specs.Steps.{HoldsStill};
 ghost use Rattle.fn_climb.specs.Turns.{Polled, PollAnswers};
 
 use crate::course::Course;
+use crate::leading::lead_on;
 use crate::pending::Pending;
-use crate::publishing::publish_based;
 use crate::stepping::advance;
 use fn_core::{CoreStep, Why};
 use fn_table::{FunnelTable, Pass};
@@ -48,7 +48,7 @@ pub fn poll_on(table: &FunnelTable, pass: &mut Pass, course: &mut Course) -> Cor
 {
     loop {
         match advance(table, pass, course) {
-            CoreStep::Going => publish_based(table, pass, course),
+            CoreStep::Going => lead_on(table, pass, course),
             CoreStep::Ready(reply) => return CoreStep::Ready(reply),
             CoreStep::NotYet(why) => return CoreStep::NotYet(why),
         }

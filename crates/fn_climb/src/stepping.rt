@@ -4,6 +4,7 @@ ghost use Rattle.fn_model.specs.Calls.{same_kind};
 ghost use Rattle.fn_rows.specs.declared.Stage.TheVariants as stage;
 ghost use Rattle.fn_table.specs.Seen.{IsOf};
 ghost use Rattle.fn_climb.specs.Course.{held_at, IsShut, Holds, pending_of};
+ghost use Rattle.fn_core.specs.declared.answer.CoreStep.TheVariants as told;
 ghost use Rattle.fn_climb.specs.Steps.{Advanced};
 
 use crate::at_level::go_on;
@@ -27,6 +28,7 @@ pub fn advance(table: &FunnelTable, pass: &mut Pass, course: &mut Course) -> Cor
 }
 
 // Takes the next step of a call that has loaded no word.
+#[inline(always)]
 fn climb(table: &FunnelTable, pass: &mut Pass, course: &mut Course) -> CoreStep
     requires together { IsOf table.now pass.old }
     requires holds { Holds pass.old course.old }
@@ -36,7 +38,10 @@ fn climb(table: &FunnelTable, pass: &mut Pass, course: &mut Course) -> CoreStep
     let stage = course.held_at(course.level);
     match stage {
         Stage::Waiting(at) => look_at(table, pass, course, at),
-        Stage::Shut(_, _) => go_up(table, pass, course),
+        Stage::Shut(_, _) => {
+            go_up(table, pass, course);
+            CoreStep::Going
+        }
         Stage::Got(base, ahead) => come_down(table, pass, course, base, ahead),
         _ => {
             let next = go_on(table, pass, course, stage);
@@ -47,6 +52,7 @@ fn climb(table: &FunnelTable, pass: &mut Pass, course: &mut Course) -> CoreStep
 }
 
 // Looks whether the call leads, waits or is late.
+#[inline(always)]
 fn look_at(table: &FunnelTable, pass: &mut Pass, course: &mut Course, at: u64) -> CoreStep
     requires together { IsOf table.now pass.old }
     requires holds { Holds pass.old course.old }
@@ -66,19 +72,19 @@ fn look_at(table: &FunnelTable, pass: &mut Pass, course: &mut Course, at: u64) -
     CoreStep::Going
 }
 
-// The batch that the call has closed goes up a level, or enters the main word.
-fn go_up(table: &FunnelTable, pass: &mut Pass, course: &mut Course) -> CoreStep
+/// The batch that the call has closed goes up a level, or enters the main word.
+#[inline(always)]
+pub fn go_up(table: &FunnelTable, pass: &mut Pass, course: &mut Course)
     requires together { IsOf table.now pass.old }
     requires holds { Holds pass.old course.old }
     requires free { course.old.word ≡ None }
     requires shut { IsShut course.old }
-    ensures { Advanced (pending_of pass.old course.old) result pass.new course.new }
+    ensures { Advanced (pending_of pass.old course.old) told.Going pass.new course.new }
 {
     if course.level < table.shape().levels() {
         let level = course.level + 1;
         let seen = see(table, pass, course.kind, level);
         course.go_to(level, Stage::Saw(seen));
-        CoreStep::Going
     } else {
         match course.kind {
             Kind::Add => if table.cap() == NO_CAP {
@@ -92,7 +98,8 @@ fn go_up(table: &FunnelTable, pass: &mut Pass, course: &mut Course) -> CoreStep
 }
 
 // Adds the batch to the main word.
-fn apply(table: &FunnelTable, pass: &mut Pass, course: &mut Course) -> CoreStep
+#[inline(always)]
+fn apply(table: &FunnelTable, pass: &mut Pass, course: &mut Course)
     requires together { IsOf table.now pass.old }
     requires holds { Holds pass.old course.old }
     requires free { course.old.word ≡ None }
@@ -100,28 +107,28 @@ fn apply(table: &FunnelTable, pass: &mut Pass, course: &mut Course) -> CoreStep
     requires top { course.old.level ≡ pass.old.seen.start.shape.levels }
     requires adds { course.old.kind ≡ Kind.Add }
     requires uncapped { pass.old.seen.start.cap ≡ NO_CAP }
-    ensures { Advanced (pending_of pass.old course.old) result pass.new course.new }
+    ensures { Advanced (pending_of pass.old course.old) told.Going pass.new course.new }
 {
     let base = apply_batch(table, pass, course.weight_at(course.level));
     course.take_base(course.level, base);
-    CoreStep::Going
 }
 
 // Loads the main word, to exchange it.
-fn load(table: &FunnelTable, pass: &mut Pass, course: &mut Course) -> CoreStep
+#[inline(always)]
+fn load(table: &FunnelTable, pass: &mut Pass, course: &mut Course)
     requires together { IsOf table.now pass.old }
     requires holds { Holds pass.old course.old }
     requires free { course.old.word ≡ None }
     requires shut { IsShut course.old }
     requires top { course.old.level ≡ pass.old.seen.start.shape.levels }
     requires tries { (same_kind course.old.kind Kind.Add && (pass.old.seen.start.cap == NO_CAP)) ≡ false }
-    ensures { Advanced (pending_of pass.old course.old) result pass.new course.new }
+    ensures { Advanced (pending_of pass.old course.old) told.Going pass.new course.new }
 {
     course.word = Some(load_try(table, pass));
-    CoreStep::Going
 }
 
 // Exchanges the main word, where it is still the one that was loaded.
+#[inline(always)]
 fn decide(table: &FunnelTable, pass: &mut Pass, course: &mut Course, word: u64) -> CoreStep
     requires together { IsOf table.now pass.old }
     requires holds { Holds pass.old course.old }
@@ -146,6 +153,7 @@ fn decide(table: &FunnelTable, pass: &mut Pass, course: &mut Course, word: u64) 
 }
 
 // Leaves the aggregator with the base of its batch, by which the call ends or goes down a level.
+#[inline(always)]
 fn come_down(
     table: &FunnelTable,
     pass: &mut Pass,

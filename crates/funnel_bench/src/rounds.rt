@@ -3,7 +3,7 @@ ghost use Rattle.std.specs.Prelude.{◌≡◌, All, length};
 ghost use Rattle.fn_core.specs.Calls.{IsIdle};
 ghost use Rattle.fn_table.specs.Seen.{IsOf, IsWhole};
 
-use fn_funnel::{Funnel, Pass, Shape, Way, add, shape_for};
+use fn_funnel::{Funnel, Pass, Shape, Way, add_on, shape_for};
 use std::alloc::{AllocError, Global};
 use std::sync::atomic::{AtomicU64, Ordering};
 use std::sync::{Mutex, Wait};
@@ -146,13 +146,12 @@ fn add_ones<R: Wait>(rt: &R, funnel: &Funnel, pass: Pass, times: u32) -> Made
         if pass.allowance() == 0 {
             return made;
         }
-        let (next, added) = add(rt, funnel, pass, 1);
+        let added = add_on(rt, funnel, &mut pass, 1);
         made.value = added.before.saturating_add(1);
         match added.way {
             Way::Funnel => {}
             Way::Direct(_) => made.past = made.past.saturating_add(1),
         }
-        pass = next;
     }
     made
 }

@@ -11,7 +11,7 @@ loop-pass-init c = (sofar_none (pending_of c.args.pass.now c.args.course.now), c
 pub loop-pass-smaller : goal.loop-pass-smaller
 loop-pass-smaller c =
     let one = falls (pending_of c.loop-pass.pass c.loop-pass.course) c.advance.new.pass c.in-Going.ensures.0 in
-    let more = falls_along (pending_of c.advance.new.pass c.advance.new.course) c.publish_based.new.pass c.publish_based.ensures.steps.0 c.publish_based.ensures.steps.1 in
+    let more = falls_along (pending_of c.advance.new.pass c.advance.new.course) c.lead_on.new.pass c.lead_on.ensures.steps.0 c.lead_on.ensures.steps.1 in
     omega (arith, one, more)
 
 pub loop-pass-preserved : goal.loop-pass-preserved
@@ -20,10 +20,10 @@ loop-pass-preserved c =
     let before : c.loop-pass.course.rows ≡ c.args.course.now.rows = c.loop-pass.invariant.2 in
     let after : c.advance.new.course.rows ≡ c.args.course.now.rows = c.in-Going.ensures.1.1 ∙ before in
     let step = with_rows c.loop-pass.pass c.loop-pass.course.rows c.args.course.now.rows Going c.advance.new.pass before c.in-Going.ensures.0 in
-    let more = along_rows c.advance.new.pass c.advance.new.course.rows c.args.course.now.rows c.publish_based.ensures.steps.0 c.publish_based.new.pass after c.publish_based.ensures.steps.1 in (
-      sofar_along first c.advance.new.pass c.publish_based.new.pass c.publish_based.ensures.steps.0 (sofar_on first c.loop-pass.pass c.advance.new.pass c.loop-pass.invariant.0 step) more,
-      c.publish_based.ensures.holds,
-      c.publish_based.ensures.rows ∙ after,
+    let more = along_rows c.advance.new.pass c.advance.new.course.rows c.args.course.now.rows c.lead_on.ensures.steps.0 c.lead_on.new.pass after c.lead_on.ensures.steps.1 in (
+      sofar_along first c.advance.new.pass c.lead_on.new.pass c.lead_on.ensures.steps.0 (sofar_on first c.loop-pass.pass c.advance.new.pass c.loop-pass.invariant.0 step) more,
+      c.lead_on.ensures.holds,
+      c.lead_on.ensures.rows ∙ after,
     )
 
 pub returns-in-Ready-clause-polled : goal.returns-in-Ready-clause-polled
