@@ -6,7 +6,7 @@
 --     HasBegun pass kind amount after, IsRefused pass kind takings at      the call that it made, or why it is refused
 --     AreFirstOpen pass finds rows      at each level the row is the first that is open by these finds
 --     BeginAnswers pass kind amount answer      what a beginning answers
-use Rattle.std.specs.Prelude.{◌≡◌, ◌≢◌, ◌⊎◌, ℕ, suc, ◌+◌, ◌-◌, ◌*◌, ◌<◌, ◌≤◌, List, [], ◌∷◌, ◌++◌, Option, Some, None, map, length, option_map, Result, Ok, Err, true, false, slice_index_or}
+use Rattle.std.specs.Prelude.{◌≡◌, ◌≢◌, ◌⊎◌, ℕ, suc, ◌+◌, ◌-◌, ◌*◌, ◌<◌, ◌≤◌, List, [], ◌∷◌, ◌++◌, Option, Some, None, map, length, option_map, Result, Ok, Err, false, slice_index_or}
 use Rattle.std.specs.List.{range_with_len, find, flat_map, Contains}
 use Rattle.fn_model.specs.declared.Kind.{Kind}
 use Rattle.fn_rows.specs.Machine.{Lets}

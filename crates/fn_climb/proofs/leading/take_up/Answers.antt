@@ -1,9 +1,8 @@
-use Rattle.std.proofs.Common.{◌≡◌, ℕ, List, [], ◌∷◌, refl, sym, ap, subst, ◌∙◌}
+use Rattle.std.proofs.Common.{[], ◌∷◌, refl, sym, ap, subst, ◌∙◌}
 use Rattle.fn_rows.specs.declared.Stage.TheVariants.{Lead, Shut}
 use Rattle.fn_core.specs.declared.answer.CoreStep.TheVariants.{Going}
-use Rattle.fn_table.specs.Seen.{PassView}
 use Rattle.fn_climb.specs.declared.course.Course.{Course}
-use Rattle.fn_climb.specs.Course.{Holds, IsShut, held_at}
+use Rattle.fn_climb.specs.Course.{Holds, held_at}
 use Rattle.fn_climb.proofs.Underway.{may_at_stage}
 use Rattle.fn_climb.proofs.Moves.{level_low, level_high, closed}
 use Rattle.fn_climb.proofs.Goes.{moved}
