@@ -35,7 +35,7 @@ use Rattle.fn_table.specs.Seen.{TableView, PassView, IsOf, May, Stepped, own_of,
 use Rattle.fn_table.specs.Standing.{IsNumbered}
 use Rattle.fn_table.proofs.FunnelLaws.{logs_are_legal}
 use Rattle.fn_table.proofs.States.{is_legal}
-use Rattle.table_tests.specs.Levels.{AreClosed, Stands, StandsBelow, IsLast, HoldsRow, AreNew}
+use Rattle.table_tests.specs.Levels.{AreClosed, Stands, StandsBelow, IsLast, HoldsRow, IsFirstRow, AreNew}
 
 -- what is put for a level stands there, and leaves the others
 put_same : {A : Type 0} (f : Kind → ℕ → A) (l : ℕ) (value : A) → put_level f Add l value Add l ≡ value
@@ -369,3 +369,66 @@ head_links t n p q level k g under a s =
     let read : row_read start.shape (link start.shape Add level index last) ≡ last = row_read-link start.shape Add level index here.1 here.2 (aggregator_below start.shape p.number level) last (last_mine start s.before now.0 before p.number Add level) in
     (λ i. link (sym a.together.1 i).shape Add level (aggregator (sym a.together.1 i).shape (sym a.named i) level) (row_read (sym a.together.1 i).shape k))
     ∙ ap (λ (x : ℕ). link start.shape Add level index (row_read start.shape x)) s.answer ∙ ap (link start.shape Add level index) read ∙ sym s.answer
+
+-- the word that names the first row of a pass names it at its aggregator
+names_first : (t : TableView) (n level owner row k : ℕ) → IsSlot t.start.shape n Add level → IsFirstRow t n level owner row → k ≡ row + 1
+    → Names t.start.shape Add level (aggregator t.start.shape n level) (row_number t.start.shape owner Add level 0) (row_read t.start.shape k - 1)
+names_first t n level owner row k here first next =
+    let shape = t.start.shape in
+    let some : 0 < shape.rows = omega (arith, shape.rows_in_range) in
+    let number : ℕ = row_number shape owner Add level 0 in
+    let slot : ℕ = slot_number shape owner Add level in
+    let same : k ≡ suc number = omega (arith, next, first.1) in
+    let whole : number / shape.rows ≡ slot = div-mul-add slot shape.rows 0 some in
+    let read : ReadsSlot shape owner Add level slot = reads_slot shape owner Add level here.1 here.2 in
+    let found : row_read shape k ≡ suc (local_row shape level owner number) =
+    ap (row_read shape) same
+    ∙ ap (λ (x : ℕ). suc (local_row shape (suc (x % shape.levels)) (x / shape.levels / 2) number)) whole
+    ∙ ap (λ (x : ℕ). suc (local_row shape x (slot / shape.levels / 2) number)) read.of_level
+    ∙ ap (λ (x : ℕ). suc (local_row shape level x number)) read.of_pass in
+    (owner, 0, first.0, (some, refl), omega (arith, found))
+
+-- a late call walks along rows, each the first of its pass
+module _ (t : TableView) (n : ℕ) (p q : PassView) (level at owner row k : ℕ) (under : List (ℕ × ℕ)) (first : IsFirstRow t n level owner row) where
+  pub holds_first : k ≡ row + 1 → Stands t n p level (Late at) under → Stepped p (Head Add level) k q → HoldsRow t n q level (At at) owner under
+  holds_first next a s = record { row = row_read t.start.shape k - 1; slot = a.slot; stands = at_first t n p q level k under at a s; names = names_first t n level owner row k a.slot first next }
+
+  names_here : (g : ℕ → Stage) (h : HoldsRow t n p level g owner under) → Names p.seen.start.shape Add level (aggregator p.seen.start.shape p.number level) row h.row
+  names_here g h =
+      subst (λ (z : Start × ℕ). Names z.0.shape Add level (aggregator z.0.shape z.1 level) row h.row) (λ i. (sym h.stands.together.1 i, sym h.stands.named i))
+      (subst (λ (x : ℕ). Names t.start.shape Add level (aggregator t.start.shape n level) x h.row) (sym first.1) h.names)
+
+  pub may_peek_lo : HoldsRow t n p level (At at) owner under → May p (Peek row Lo)
+  may_peek_lo h =
+      let a = h.stands in
+      let g : Stage = At at h.row in
+      (inside t n p level g under a, (Add, level, (a.climbs, inl (at, h.row, a.stage)), subst (λ (x : Stage). MayPeek p.seen.start Add level (aggregator p.seen.start.shape p.number level) x row Lo) (sym a.stage) (names_here (At at) h)))
+
+  pub may_peek_prev : HoldsRow t n p level (Over at) owner under → May p (Peek row Prev)
+  may_peek_prev h =
+      let a = h.stands in
+      let g : Stage = Over at h.row in
+      (inside t n p level g under a, (Add, level, (a.climbs, inr (inl (at, h.row, a.stage))), subst (λ (x : Stage). MayPeek p.seen.start Add level (aggregator p.seen.start.shape p.number level) x row Prev) (sym a.stage) (names_here (Over at) h)))
+
+  pub may_peek_base : (lo : ℕ) → HoldsRow t n p level (λ r. Hit at r lo) owner under → May p (Peek row Base)
+  may_peek_base lo h =
+      let a = h.stands in
+      let g : Stage = Hit at h.row lo in
+      (inside t n p level g under a, (Add, level, (a.climbs, inr (inr (at, h.row, lo, a.stage))), subst (λ (x : Stage). MayPeek p.seen.start Add level (aggregator p.seen.start.shape p.number level) x row Base) (sym a.stage) (names_here (λ r. Hit at r lo) h)))
+
+  pub at_hit : k ≤ at → HoldsRow t n p level (At at) owner under → Stepped p (Peek row Lo) k q → HoldsRow t n q level (λ r. Hit at r k) owner under
+  at_hit less h s =
+      let is : peeked at h.row k ≡ Hit at h.row k = ap (λ (b : Bool). if b then Hit at h.row k else Over at h.row) (le-leb k at less) in
+      record { row = h.row; slot = h.slot; stands = at_peeked t n p q level k under row Lo (At at h.row) (Hit at h.row k) is h.stands s; names = h.names }
+
+  pub at_over : at < k → HoldsRow t n p level (At at) owner under → Stepped p (Peek row Lo) k q → HoldsRow t n q level (Over at) owner under
+  at_over less h s =
+      let is : peeked at h.row k ≡ Over at h.row = ap (λ (b : Bool). if b then Hit at h.row k else Over at h.row) (lt-leb k at less) in
+      record { row = h.row; slot = h.slot; stands = at_peeked t n p q level k under row Lo (At at h.row) (Over at h.row) is h.stands s; names = h.names }
+
+  pub at_before : (next before : ℕ) → IsFirstRow t n level next before → k ≡ before + 1 → HoldsRow t n p level (Over at) owner under → Stepped p (Peek row Prev) k q → HoldsRow t n q level (At at) next under
+  at_before next before its is h s =
+      record { row = row_read t.start.shape k - 1; slot = h.slot; stands = at_peeked t n p q level k under row Prev (Over at h.row) (At at (row_read t.start.shape k - 1)) refl h.stands s; names = names_first t n level next before k h.stands.slot its is }
+
+  pub at_met : (lo ahead : ℕ) → ahead ≡ at - lo → HoldsRow t n p level (λ r. Hit at r lo) owner under → Stepped p (Peek row Base) k q → Stands t n q level (Got k ahead) under
+  at_met lo ahead is h s = at_peeked t n p q level k under row Base (Hit at h.row lo) (Got k ahead) (ap (Got k) (sym is)) h.stands s

@@ -4,6 +4,7 @@
 --     StandsBelow table n pass level stage under      .. to this stage one level below
 --     IsLast under batch      the first of the batches is this one
 --     HoldsRow table n pass level stage owner under      .. and has the first row of another pass in hand
+--     IsFirstRow table n level owner row      the row is that one
 --     AreNew pass      no row that the pass would fill first was published
 use Rattle.std.specs.Prelude.{◌≡◌, ℕ, suc, ◌-◌, ◌≤◌, List, [], ◌∷◌}
 use Rattle.fn_model.specs.declared.Kind.TheVariants.{Add}
@@ -39,8 +40,13 @@ IsLast (first ∷ under) batch = first ≡ batch
 -- the row in hand is named by its number at the aggregator
 pub record HoldsRow (t : TableView) (n : ℕ) (p : PassView) (level : ℕ) (g : ℕ → Stage) (owner : ℕ) (under : List (ℕ × ℕ)) : Type 0 where
   pub row : ℕ
+  pub slot : IsSlot t.start.shape n Add level
   pub stands : Stands t n p level (g row) under
   pub names : Names t.start.shape Add level (aggregator t.start.shape n level) (row_number t.start.shape owner Add level 0) row
 
 abbrev pub AreNew : PassView → Type 0
 AreNew p = (level : ℕ) → 1 ≤ level → level ≤ p.seen.start.shape.levels → (own_of p).ends Add level 0 ≡ 0
+
+-- the row is the first of another pass that has the same aggregator
+abbrev pub IsFirstRow : TableView → ℕ → ℕ → ℕ → ℕ → Type 0
+IsFirstRow t n level owner row = (aggregator t.start.shape owner level ≡ aggregator t.start.shape n level) × (row ≡ row_number t.start.shape owner Add level 0)

@@ -2,8 +2,10 @@ ghost use Rattle.std.specs.Prelude.{◌≡◌, ◌<◌, ◌≤◌, ◌-◌, [], 
 ghost use Rattle.fn_rows.specs.declared.Stage.TheVariants.{Waiting, Shut, Based, At, Over, Hit, Got};
 ghost use Rattle.fn_core.specs.Calls.{IsIdle};
 ghost use Rattle.fn_table.specs.Seen.{IsOf, IsWhole, AreOpened};
+ghost use Rattle.fn_layout.specs.Words.{IsSlot};
+ghost use Rattle.fn_model.specs.declared.Kind.TheVariants.{Add};
 ghost use Rattle.fn_table.specs.Standing.{IsNumbered};
-ghost use Rattle.table_tests.specs.Levels.{Stands, StandsBelow, IsLast, HoldsRow, AreNew};
+ghost use Rattle.table_tests.specs.Levels.{Stands, StandsBelow, IsLast, HoldsRow, IsFirstRow, AreNew};
 
 use fn_layout::{Field, Kind, Shape};
 use fn_model::{NO_CAP, after_capped};
@@ -445,6 +447,146 @@ fn a_scan_finds_what_another_announced(rt: HostRuntime) -> Result<(), Fail> {
         && let Some(mut first) = taken(&table, &mut passes, 0)
     {
         assert_eq!(rt; scans(&table, &mut first, &mut second), Some((0, 8)));
+        return Ok(());
+    }
+    assert!(&rt; false);
+    Ok(())
+}
+
+// The first row of another pass, where both have one aggregator at this level.
+fn first_row(table: &FunnelTable, number: u32, level: u32, owner: u32) -> Option<u32>
+    requires slot { IsSlot table.now.start.shape number Add level }
+    ensures first { IfSome result (λ row. IsFirstRow table.now number level owner row) }
+{
+    let shape = table.shape();
+    let passes = shape.passes();
+    if passes <= owner {
+        return None;
+    }
+    let mine = shape.aggregator_of(number, level);
+    let theirs = shape.aggregator_of(owner, level);
+    if theirs != mine {
+        return None;
+    }
+    let row = shape.row_of(owner, Kind::Add, level, 0);
+    Some(row)
+}
+
+// The call is late, and takes the row in hand that was published last: what `done` was.
+fn come_late(
+    table: &FunnelTable,
+    pass: &mut Pass,
+    number: u32,
+    level: u32,
+    at: u64,
+    owner: u32,
+    under: &[(u64, u64)],
+) -> Option<u64>
+    requires waits { Stands table.now number pass.old level (Waiting at) under.now }
+    ensures row { IfSome result (λ _. HoldsRow table.now number pass.new level (At at) owner under.now) }
+{
+    let row = first_row(table, number, level, owner)?;
+    let done = look(table, pass, Kind::Add, level);
+    if done <= at {
+        return None;
+    }
+    let link = head(table, pass, Kind::Add, level);
+    if link != u64::from(row) + 1 {
+        return None;
+    }
+    Some(done)
+}
+
+// The row in hand begins above the offset, and the one before it comes into hand: where it begins.
+fn go_over(
+    table: &FunnelTable,
+    pass: &mut Pass,
+    number: u32,
+    level: u32,
+    at: u64,
+    owners: (u32, u32),
+    under: &[(u64, u64)],
+) -> Option<u64>
+    requires row { HoldsRow table.now number pass.old level (At at) owners.0 under.now }
+    ensures row { IfSome result (λ _. HoldsRow table.now number pass.new level (At at) owners.1 under.now) }
+{
+    let row = first_row(table, number, level, owners.0)?;
+    let before = first_row(table, number, level, owners.1)?;
+    let lo = peek(table, pass, row, Field::Lo);
+    if lo <= at {
+        return None;
+    }
+    let link = peek(table, pass, row, Field::Prev);
+    if link != u64::from(before) + 1 {
+        return None;
+    }
+    Some(lo)
+}
+
+// The row in hand is that of the call's batch: its base, and how far ahead of the call it begins.
+fn meet_batch(
+    table: &FunnelTable,
+    pass: &mut Pass,
+    number: u32,
+    level: u32,
+    at: u64,
+    owner: u32,
+    under: &[(u64, u64)],
+) -> Option<(u64, u64)>
+    requires row { HoldsRow table.now number pass.old level (At at) owner under.now }
+    ensures got { IfSome result (λ r. Stands table.now number pass.new level (Got r.0 r.1) under.now) }
+{
+    let row = first_row(table, number, level, owner)?;
+    let lo = peek(table, pass, row, Field::Lo);
+    if at < lo {
+        return None;
+    }
+    let base = peek(table, pass, row, Field::Base);
+    let ahead = at.saturating_sub(lo);
+    Some((base, ahead))
+}
+
+// A call that came second to a batch is late by two batches, and walks to its own: what `done` was at its looks, where the row begins that it goes over, what it met, and what the two others met.
+fn walks(
+    table: &FunnelTable,
+    first: &mut Pass,
+    second: &mut Pass,
+    third: &mut Pass,
+) -> Option<((u64, u64), u64, (u64, u64), (u64, u64, u64))>
+    requires rest { IsNumbered table.now first.old 0 × IsNumbered table.now second.old 1 × IsNumbered table.now third.old 2 }
+{
+    let (_, leaf) = start(table, first, 0, 5)?;
+    let one = [leaf];
+    let (_, at) = rise(table, first, 0, 2, leaf, &one)?;
+    let (_, other) = start(table, second, 1, 7)?;
+    let two = [other];
+    let (_, behind) = rise(table, second, 1, 2, other, &two)?;
+    let still = waits(table, second, 1, 2, behind, &two)?;
+    let end = lead(table, first, 0, 2, at, &one)?;
+    let base = apply(table, first, 0, 2, (at, end), &one)?;
+    let (_, reply) = descend(table, first, 0, 2, (at, end), base, leaf, &one)?;
+    end_at_leaf(table, first, 0, leaf, reply)?;
+    let (_, _, last) = two_levels(table, third, 2, 1)?;
+    let done = come_late(table, second, 1, 2, behind, 2, &two)?;
+    let over = go_over(table, second, 1, 2, behind, (2, 0), &two)?;
+    let got = meet_batch(table, second, 1, 2, behind, 0, &two)?;
+    let met = go_down(table, second, 1, 2, got, other, &two)?;
+    end_at_leaf(table, second, 1, other, met)?;
+    Some(((still, done), over, got, (reply, met, last)))
+}
+
+#[test]
+fn a_late_call_walks_to_its_row(rt: HostRuntime) -> Result<(), Fail> {
+    if let Ok(shape) = Shape::new(3, 2, 2, 1)
+        && let Ok((table, mut passes)) = FunnelTable::open(rt.alloc(), shape, 100, &[5, 7, 1])
+        && let Some(mut third) = taken(&table, &mut passes, 2)
+        && let Some(mut second) = taken(&table, &mut passes, 1)
+        && let Some(mut first) = taken(&table, &mut passes, 0)
+    {
+        assert_eq!(rt;
+            walks(&table, &mut first, &mut second, &mut third),
+            Some(((0, 13), 12, (100, 5), (100, 105, 112)))
+        );
         return Ok(());
     }
     assert!(&rt; false);
