@@ -2,4 +2,6 @@
 #![tactic(auto)]
 
 #[cfg(test)]
+mod more_levels;
+#[cfg(test)]
 mod one_level;
