@@ -244,17 +244,39 @@ pub(crate) fn both_reply(table: &FunnelTable, first: Pending, second: Pending) -
     Some((one, two))
 }
 
+// A pair of calls takes five steps each, and replies.
+fn reply_after_five(table: &FunnelTable, calls: (Pending, Pending)) -> Option<(u64, u64)>
+    requires { IsOf table.now calls.0.pass × IsOf table.now calls.1.pass }
+{
+    let first = goes_on(table, calls.0, 5);
+    let second = goes_on(table, calls.1, 5);
+    match (first, second) {
+        (Some(first), Some(second)) => both_reply(table, first, second),
+        _ => None,
+    }
+}
+
+// Two delegates reply after five steps, and then their members.
+fn both_levels(
+    table: &FunnelTable,
+    delegates: (Pending, Pending),
+    members: (Pending, Pending),
+) -> Option<((u64, u64), (u64, u64))>
+    requires delegates { IsOf table.now delegates.0.pass × IsOf table.now delegates.1.pass }
+    requires members { IsOf table.now members.0.pass × IsOf table.now members.1.pass }
+{
+    let upper = reply_after_five(table, delegates)?;
+    let lower = both_reply(table, members.0, members.1)?;
+    Some((upper, lower))
+}
+
 // Two leaf batches go in one step on the main word: what their delegates met, and what their members did.
 fn two_levels(table: &FunnelTable, mut passes: Vec<Pass>) -> Option<((u64, u64), (u64, u64))>
     requires { AreOpened table.now passes.items }
 {
-    let (first, second) = start_two(table, &mut passes, 1, 4)?;
-    let (third, fourth) = start_two(table, &mut passes, 2, 8)?;
-    let first = goes_on(table, first, 5)?;
-    let second = goes_on(table, second, 5)?;
-    let delegates = both_reply(table, first, second)?;
-    let members = both_reply(table, third, fourth)?;
-    Some((delegates, members))
+    let delegates = start_two(table, &mut passes, 1, 4)?;
+    let members = start_two(table, &mut passes, 2, 8)?;
+    both_levels(table, delegates, members)
 }
 
 // A step of a call, if it hasn't ended, and its reply once it has.

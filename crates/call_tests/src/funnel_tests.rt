@@ -4,6 +4,7 @@ ghost use Rattle.fn_core.specs.Calls.{IsIdle};
 ghost use Rattle.fn_table.specs.Seen.{IsOf, AreOpened};
 ghost use Rattle.fn_table.specs.Standing.{IsNumbered};
 
+use crate::climb_tests::goes_on;
 use fn_climb::FunnelTable;
 use fn_funnel::*;
 use std::alloc::{AllocError, Global};
@@ -18,9 +19,12 @@ fn two_passes(funnel: &Funnel, mut passes: Vec<Pass>) -> Option<(Pass, Pass)>
     requires two { funnel.now.start.shape.passes ≡ 2 }
     ensures { IfSome result (λ r. IsNumbered funnel.now r.0 0 × IsNumbered funnel.now r.1 1) }
 {
-    let second = passes.pop()?;
-    let first = passes.pop()?;
-    Some((first, second))
+    let second = passes.pop();
+    let first = passes.pop();
+    match (first, second) {
+        (Some(first), Some(second)) => Some((first, second)),
+        _ => None,
+    }
 }
 
 // The value of the book, when both have come back.
@@ -94,20 +98,6 @@ fn loses(table: &FunnelTable, pending: Pending) -> Option<(Pending, Why)>
         Step::NotYet(pending, why) => Some((pending, why)),
         Step::Going(_) | Step::Ready(_, _) => None,
     }
-}
-
-// So many steps, each of which leaves the call going.
-fn goes(table: &FunnelTable, mut pending: Pending, times: u32) -> Option<Pending>
-    requires { IsOf table.now pending.pass }
-    ensures { IfSome result (λ p. IsOf table.now p.pass) }
-{
-    for _ in 0..times {
-        match pending.step(table) {
-            Step::Going(next) => pending = next,
-            Step::NotYet(_, _) | Step::Ready(_, _) => return None,
-        }
-    }
-    Some(pending)
 }
 
 // What stands after a call that goes past a stalled one.
@@ -322,7 +312,7 @@ fn loses_once(funnel: &Funnel, passes: Vec<Pass>) -> Option<(u64, Why, u64, u64)
 {
     let (first, mut second) = two_passes(funnel, passes)?;
     let first = starts(funnel.table(), first, 4)?;
-    let first = goes(funnel.table(), first, 3)?;
+    let first = goes_on(funnel.table(), first, 3)?;
     if second.allowance() < 2 {
         return None;
     }

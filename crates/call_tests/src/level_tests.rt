@@ -1,9 +1,10 @@
 //! Calls at each of three levels, step by step, and what scans find of them there.
 ghost use Rattle.fn_core.specs.Calls.{IsIdle};
 ghost use Rattle.fn_table.specs.Seen.{IsOf, AreOpened};
+ghost use Rattle.std.specs.Prelude.{IfSome};
 
 use crate::climb_tests::{adds_one, both_reply, goes_on, last_of, replies, start, start_two};
-use fn_climb::{FunnelTable, Kind, Pass};
+use fn_climb::{FunnelTable, Kind, Pass, Pending};
 use fn_layout::Shape;
 use fn_table::scan;
 use std::test::*;
@@ -75,23 +76,68 @@ fn announced_at_the_end(table: &FunnelTable, mut passes: Vec<Pass>) -> Option<(u
     announced_at_three(table, pass, 1)
 }
 
+// Two calls take so many steps each.
+fn both_go_on(
+    table: &FunnelTable,
+    first: Pending,
+    second: Pending,
+    times: u32,
+) -> Option<(Pending, Pending)>
+    requires first { IsOf table.now first.pass }
+    requires second { IsOf table.now second.pass }
+    ensures { IfSome result (λ r. IsOf table.now r.0.pass × IsOf table.now r.1.pass) }
+{
+    let first = goes_on(table, first, times);
+    let second = goes_on(table, second, times);
+    match (first, second) {
+        (Some(first), Some(second)) => Some((first, second)),
+        _ => None,
+    }
+}
+
+// A call ends, and its pass adds 1: what both met.
+fn replies_and_adds(table: &FunnelTable, pending: Pending) -> Option<(u64, u64)>
+    requires { IsOf table.now pending.pass }
+{
+    let (pass, met) = replies(table, pending)?;
+    let (_, again) = adds_one(table, pass)?;
+    Some((met, again))
+}
+
+// Two delegates come to the third level, of which the first adds again: what it met, and what the other met.
+fn delegates_reply(table: &FunnelTable, first: Pending, third: Pending) -> Option<((u64, u64), u64)>
+    requires first { IsOf table.now first.pass }
+    requires third { IsOf table.now third.pass }
+{
+    let (first, third) = both_go_on(table, first, third, 5)?;
+    let met = replies_and_adds(table, first)?;
+    let (_, other) = replies(table, third)?;
+    Some((met, other))
+}
+
+// Four calls come from their leaves, and the two delegates among them end first.
+fn four_reply(
+    table: &FunnelTable,
+    leaders: (Pending, Pending),
+    others: (Pending, Pending),
+) -> Option<((u64, u64), u64, (u64, u64))>
+    requires leaders { IsOf table.now leaders.0.pass × IsOf table.now leaders.1.pass }
+    requires others { IsOf table.now others.0.pass × IsOf table.now others.1.pass }
+{
+    let (first, second) = both_go_on(table, leaders.0, leaders.1, 5)?;
+    let (third, fourth) = both_go_on(table, others.0, others.1, 5)?;
+    let (met, other) = delegates_reply(table, first, third)?;
+    let members = both_reply(table, second, fourth)?;
+    Some((met, other, members))
+}
+
 // Four calls with a leaf each share a batch at the third level by two delegates, of which one adds again before the other three look for their rows: what it met, and what they met.
 fn three_levels(table: &FunnelTable, mut passes: Vec<Pass>) -> Option<((u64, u64), u64, (u64, u64))>
     requires { AreOpened table.now passes.items }
 {
-    let (third, fourth) = start_two(table, &mut passes, 4, 8)?;
-    let (first, second) = start_two(table, &mut passes, 1, 2)?;
-    let first = goes_on(table, first, 5)?;
-    let second = goes_on(table, second, 5)?;
-    let third = goes_on(table, third, 5)?;
-    let fourth = goes_on(table, fourth, 5)?;
-    let first = goes_on(table, first, 5)?;
-    let third = goes_on(table, third, 5)?;
-    let (pass, met) = replies(table, first)?;
-    let (_, again) = adds_one(table, pass)?;
-    let (_, other) = replies(table, third)?;
-    let members = both_reply(table, second, fourth)?;
-    Some(((met, again), other, members))
+    let others = start_two(table, &mut passes, 4, 8)?;
+    let leaders = start_two(table, &mut passes, 1, 2)?;
+    four_reply(table, leaders, others)
 }
 
 #[test]

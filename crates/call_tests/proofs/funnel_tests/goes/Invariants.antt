@@ -1,5 +1,0 @@
-use Rattle.fn_table.specs.Seen.{IsOf}
-use Rattle.call_tests.proofs.funnel_tests.goes.Given as goal
-
-abbrev pub invariant-loop : goal.invariant-loop
-invariant-loop l = IsOf l.table l.pending.pass
