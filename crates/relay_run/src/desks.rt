@@ -3,7 +3,7 @@ ghost use Rattle.std.specs.Prelude.{◌≡◌, ◌≤◌, [], ◌∷◌, MatchOp
 ghost use Rattle.tq_queue.specs.Seen.{IsOf, left_in};
 ghost use Rattle.relay_run.specs.Work.{Advances};
 
-use crossbeam_utils::Backoff;
+use crate::patience::Patience;
 use std::sync::Wait;
 use tq_queue::{QueuePass, TicketQueue, try_put, try_take};
 
@@ -67,7 +67,7 @@ impl Desk {
         ensures together { IsOf queue.now result.0.pass }
         ensures outcome { Advances self result.0 (result.1 ∷ []) (line ∷ []) }
     {
-        let backoff = Backoff::new();
+        let mut patience = Patience::new();
         let mut desk = self;
         for _ in rt.forever() {
             let (after_put, ticket) = desk.try_put(rt, queue, line);
@@ -76,8 +76,10 @@ impl Desk {
             }
             let (after_take, has_taken) = after_put.try_take(rt, queue);
             desk = after_take;
-            if !has_taken {
-                backoff.snooze();
+            if has_taken {
+                patience.reset();
+            } else {
+                patience.wait(rt);
             }
         }
         unreachable!()
@@ -90,7 +92,7 @@ impl Desk {
         ensures outcome { Advances self result [] [] }
         ensures owed { result.owed ≡ 0 }
     {
-        let backoff = Backoff::new();
+        let mut patience = Patience::new();
         let mut desk = self;
         for _ in rt.forever() {
             if desk.owed == 0 {
@@ -98,8 +100,10 @@ impl Desk {
             }
             let (after, has_taken) = desk.try_take(rt, queue);
             desk = after;
-            if !has_taken {
-                backoff.snooze();
+            if has_taken {
+                patience.reset();
+            } else {
+                patience.wait(rt);
             }
         }
         unreachable!()

@@ -4,6 +4,7 @@
 mod desks;
 mod gathering;
 mod lines;
+mod patience;
 mod relaying;
 mod shares;
 mod texts;
