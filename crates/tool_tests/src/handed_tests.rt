@@ -1,7 +1,5 @@
 //! What runs hand back beside their texts, whether or not the text could be written.
-use crate::play_tests::{Ran, words_of};
-use crate::trace_tests::run_words;
-use edge_io::{MemSink, MemSource};
+use crate::runs::{Ran, run_on, sound};
 use gates::OpenGate;
 use std::alloc::AllocGlobal;
 use std::random::RandomSource;
@@ -15,14 +13,15 @@ static SCRIPT: &str = "funnel 2 1 1 2 10\n0 add 5\n1 sub 3\n";
 // Runs a command, whose first write may fail.
 fn run_once<R: Threads + Wait + Sync + RandomSource + AllocGlobal>(
     rt: &R,
-    words: &[String],
+    line: &str,
     input: &str,
     fails: bool,
 ) -> Result<Ran, Fail> {
-    let faults: &[u64] = if fails { &[0] } else { &[] };
-    let source = MemSource::new(rt.alloc(), input.as_bytes(), 100, &[])?;
-    let out = MemSink::new(rt.alloc(), 1000, 100, faults)?;
-    run_words(rt, words, source, out, &OpenGate)
+    let mut streams = sound();
+    if fails {
+        streams.failing_writes = &[0];
+    }
+    run_on(rt, line, input.as_bytes(), streams, &OpenGate)
 }
 
 // The status of a run, whose write may have failed.
@@ -50,13 +49,11 @@ fn books_are_handed_back(rt: HostRuntime) -> Result<(), Fail> {
             (10, 6),
         ),
     ] {
-        let words = words_of(&rt, line)?;
         for fails in [false, true] {
-            let ran = run_once(&rt, &words, input, fails)?;
-            assert_eq!(rt; ran.outcome.status, status_after(fails));
-            assert_eq!(rt; one_book(&ran.outcome), Some(book));
-            assert!(rt; ran.outcome.queue.is_none());
-            assert!(rt; ran.outcome.bucket.is_none());
+            let ran = run_once(&rt, line, input, fails)?;
+            let is_alone = ran.outcome.queue.is_none() && ran.outcome.bucket.is_none();
+            let has_ended = ran.outcome.status == status_after(fails);
+            assert!(rt; has_ended && is_alone && one_book(&ran.outcome) == Some(book));
         }
     }
     Ok(())
@@ -64,37 +61,32 @@ fn books_are_handed_back(rt: HostRuntime) -> Result<(), Fail> {
 
 #[test]
 fn the_book_of_a_queue_is_handed_back(rt: HostRuntime) -> Result<(), Fail> {
-    let words = words_of(&rt, "relay 1 2")?;
     for fails in [false, true] {
-        let ran = run_once(&rt, &words, "a\nb\n", fails)?;
-        assert_eq!(rt; ran.outcome.status, status_after(fails));
+        let ran = run_once(&rt, "relay 1 2", "a\nb\n", fails)?;
+        let has_ended = ran.outcome.status == status_after(fails);
+        assert!(rt; has_ended && ran.outcome.books.is_empty());
         let queue = ran.outcome.queue.as_ref().ok_or("no queue")?;
         assert_eq!(rt; queue.puts(), 2);
-        assert!(rt; ran.outcome.books.is_empty());
     }
     Ok(())
 }
 
 #[test]
 fn the_book_of_a_bucket_is_handed_back(rt: HostRuntime) -> Result<(), Fail> {
-    let words = words_of(&rt, "throttle 1 10 2 5")?;
     for fails in [false, true] {
-        let ran = run_once(&rt, &words, "0 12 7\n", fails)?;
-        assert_eq!(rt; ran.outcome.status, status_after(fails));
+        let ran = run_once(&rt, "throttle 1 10 2 5", "0 12 7\n", fails)?;
+        let has_ended = ran.outcome.status == status_after(fails);
+        assert!(rt; has_ended && ran.outcome.books.is_empty());
         let bucket = ran.outcome.bucket.as_ref().ok_or("no bucket")?;
-        assert_eq!(rt; bucket.tick(), 2);
-        assert_eq!(rt; bucket.value(), 3);
-        assert!(rt; ran.outcome.books.is_empty());
+        assert_eq!(rt; (bucket.tick(), bucket.value()), (2, 3));
     }
     Ok(())
 }
 
 #[test]
 fn callers_in_mid_call_are_handed_back(rt: HostRuntime) -> Result<(), Fail> {
-    let words = words_of(&rt, "trial")?;
-    let ran = run_once(&rt, &words, SCRIPT, false)?;
-    assert!(rt; ran.is(3, b"", b"refused: unfinished pass 0\n"));
-    assert_eq!(rt; ran.outcome.halted.len(), 2);
-    assert!(rt; ran.outcome.books.is_empty());
+    let ran = run_once(&rt, "trial", SCRIPT, false)?;
+    let hands_back = ran.outcome.halted.len() == 2 && ran.outcome.books.is_empty();
+    assert!(rt; hands_back && ran.is(3, b"", b"refused: unfinished pass 0\n"));
     Ok(())
 }

@@ -12,6 +12,8 @@ mod round_tests;
 #[cfg(test)]
 mod rounds_text_tests;
 #[cfg(test)]
+mod runs;
+#[cfg(test)]
 mod script_tests;
 #[cfg(test)]
 mod takes_tests;

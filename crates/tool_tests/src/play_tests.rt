@@ -1,8 +1,6 @@
 //! Whole runs on fakes of the streams.
-use edge_io::{MemSink, MemSource};
-use std::alloc::Global;
+use crate::runs::{Ran, failing_reads, failing_writes, play_on, sound};
 use std::test::Fail;
-use tool_run::{Outcome, run_play, *};
 
 #[derive(Clone, Copy)]
 pub(crate) struct Row {
@@ -559,16 +557,8 @@ pub(crate) static ROWS: [Row; 60] = [
     },
 ];
 
-// The words of a line.
-pub(crate) fn words_of(rt: &HostRuntime, line: &str) -> Result<Vec<String>, Fail> {
-    let mut words = Vec::new(rt.alloc());
-    for word in line.split_whitespace() {
-        words.push(String::from_str(rt.alloc(), word)?)?;
-    }
-    Ok(words)
-}
-
-pub(crate) fn input_of(rt: &HostRuntime, row: Row) -> Result<Vec<u8>, Fail> {
+// The bytes of a row.
+fn input_of(rt: &HostRuntime, row: Row) -> Result<Vec<u8>, Fail> {
     let mut input = Vec::from_slice(rt.alloc(), row.input.as_bytes())?;
     let newlines = vec![in rt.alloc(); b'\n'; row.newlines]?;
     input.extend_from_slice(&newlines)?;
@@ -576,55 +566,12 @@ pub(crate) fn input_of(rt: &HostRuntime, row: Row) -> Result<Vec<u8>, Fail> {
     Ok(input)
 }
 
-/// What a run came to: what it handed back, and what was written.
-#[derive(Drop)]
-pub(crate) struct Ran {
-    pub(crate) outcome: Outcome,
-    pub(crate) text: Vec<u8>,
-    pub(crate) line: Vec<u8>,
-}
-
-impl Ran {
-    pub(crate) fn of(
-        alloc: Global,
-        outcome: Outcome,
-        out: &MemSink,
-        err: &MemSink,
-    ) -> Result<Ran, Fail> {
-        Ok(Ran {
-            outcome,
-            text: Vec::from_slice(alloc, out.held())?,
-            line: Vec::from_slice(alloc, err.held())?,
-        })
-    }
-
-    pub(crate) fn is(&self, status: u8, text: &[u8], line: &[u8]) -> bool {
-        self.outcome.status == status
-            && self.text.as_slice() == text
-            && self.line.as_slice() == line
-    }
-}
-
-// Runs a command on scripts.
-fn run_script(
-    rt: &HostRuntime,
-    line: &str,
-    mut source: MemSource,
-    mut out: MemSink,
-    mut err: MemSink,
-) -> Result<Ran, Fail> {
-    let words = words_of(rt, line)?;
-    let outcome = run_play(rt.alloc(), &words, &mut source, &mut out, &mut err);
-    Ran::of(rt.alloc(), outcome, &out, &err)
-}
-
 // Runs a command on a row's script.
 fn run_row(rt: &HostRuntime, line: &str, row: Row) -> Result<Ran, Fail> {
     let input = input_of(rt, row)?;
-    let source = MemSource::new(rt.alloc(), &input, 4096, &[])?;
-    let out = MemSink::new(rt.alloc(), 1000, 100, &[])?;
-    let err = MemSink::new(rt.alloc(), 1000, 100, &[])?;
-    run_script(rt, line, source, out, err)
+    let mut streams = sound();
+    streams.read = 4096;
+    play_on(rt.alloc(), line, &input, streams)
 }
 
 #[test]
@@ -660,10 +607,9 @@ static TEXT: &str = "waits\nwaits\nreply 6\nreply 2\nvalue 0\n";
 #[test]
 fn a_failed_read_writes_nothing(rt: HostRuntime) -> Result<(), Fail> {
     for read in 0..6 {
-        let source = MemSource::new(rt.alloc(), SCRIPT.as_bytes(), 10, &[read])?;
-        let out = MemSink::new(rt.alloc(), 1000, 10, &[])?;
-        let err = MemSink::new(rt.alloc(), 1000, 5, &[])?;
-        let ran = run_script(&rt, "play", source, out, err)?;
+        let failing = [read];
+        let streams = failing_reads(10, &failing);
+        let ran = play_on(rt.alloc(), "play", SCRIPT.as_bytes(), streams)?;
         assert!(rt; ran.is(4, b"", b"read failed\n"));
     }
     Ok(())
@@ -673,13 +619,11 @@ fn a_failed_read_writes_nothing(rt: HostRuntime) -> Result<(), Fail> {
 fn a_failed_write_leaves_a_front(rt: HostRuntime) -> Result<(), Fail> {
     let mut whole = 0;
     for write in 0..4 {
-        let source = MemSource::new(rt.alloc(), SCRIPT.as_bytes(), 7, &[])?;
-        let out = MemSink::new(rt.alloc(), 1000, 10, &[write])?;
-        let err = MemSink::new(rt.alloc(), 1000, 100, &[])?;
-        let ran = run_script(&rt, "play", source, out, err)?;
-        assert_eq!(rt; ran.text.len(), whole);
-        assert!(rt; TEXT.as_bytes().starts_with(&ran.text));
-        assert!(rt; ran.is(5, &ran.text, b"write failed\n"));
+        let failing = [write];
+        let streams = failing_writes(7, &failing);
+        let ran = play_on(rt.alloc(), "play", SCRIPT.as_bytes(), streams)?;
+        let front = ran.text.len() == whole && TEXT.as_bytes().starts_with(&ran.text);
+        assert!(rt; front && ran.is(5, &ran.text, b"write failed\n"));
         whole += 10;
     }
     Ok(())
@@ -687,38 +631,39 @@ fn a_failed_write_leaves_a_front(rt: HostRuntime) -> Result<(), Fail> {
 
 #[test]
 fn a_sink_that_takes_nothing_is_told_apart(rt: HostRuntime) -> Result<(), Fail> {
-    let source = MemSource::new(rt.alloc(), SCRIPT.as_bytes(), 7, &[])?;
-    let out = MemSink::new(rt.alloc(), 1000, 0, &[])?;
-    let err = MemSink::new(rt.alloc(), 1000, 100, &[])?;
-    let ran = run_script(&rt, "play", source, out, err)?;
+    let mut streams = sound();
+    (streams.read, streams.write) = (7, 0);
+    let ran = play_on(rt.alloc(), "play", SCRIPT.as_bytes(), streams)?;
     assert!(rt; ran.is(5, b"", b"write stuck\n"));
     Ok(())
 }
 
 #[test]
 fn a_failed_line_leaves_the_status(rt: HostRuntime) -> Result<(), Fail> {
-    let source = MemSource::new(rt.alloc(), b"funnel", 7, &[])?;
-    let out = MemSink::new(rt.alloc(), 1000, 10, &[])?;
-    let err = MemSink::new(rt.alloc(), 1000, 9, &[1])?;
-    let ran = run_script(&rt, "play", source, out, err)?;
+    let mut streams = sound();
+    (streams.read, streams.write, streams.line) = (7, 10, 9);
+    streams.failing_lines = &[1];
+    let ran = play_on(rt.alloc(), "play", b"funnel", streams)?;
     assert!(rt; ran.is(3, b"", b"refused: "));
     Ok(())
 }
 
 fn status_of_words(rt: &HostRuntime, line: &str) -> Result<u8, Fail> {
-    let source = MemSource::new(rt.alloc(), SCRIPT.as_bytes(), 7, &[])?;
-    let out = MemSink::new(rt.alloc(), 1000, 10, &[])?;
-    let err = MemSink::new(rt.alloc(), 1000, 100, &[])?;
-    Ok(run_script(rt, line, source, out, err)?.outcome.status)
+    let ran = play_on(rt.alloc(), line, SCRIPT.as_bytes(), sound())?;
+    Ok(ran.outcome.status)
 }
 
 #[test]
 fn words_are_of_scripts(rt: HostRuntime) -> Result<(), Fail> {
-    assert_eq!(rt; status_of_words(&rt, "play")?, 0);
-    assert_eq!(rt; status_of_words(&rt, "trial --")?, 0);
-    assert_eq!(rt; status_of_words(&rt, "play 1")?, 2);
-    assert_eq!(rt; status_of_words(&rt, "replay 1")?, 2);
-    assert_eq!(rt; status_of_words(&rt, "sum")?, 2);
-    assert_eq!(rt; status_of_words(&rt, "")?, 2);
+    for (line, status) in [
+        ("play", 0),
+        ("trial --", 0),
+        ("play 1", 2),
+        ("replay 1", 2),
+        ("sum", 2),
+        ("", 2),
+    ] {
+        assert_eq!(rt; status_of_words(&rt, line)?, status);
+    }
     Ok(())
 }

@@ -1,4 +1,4 @@
-ghost use Rattle.std.specs.Prelude.{◌≡◌, [], ◌∷◌, IfSome, IsSome, IsSomeAnd};
+ghost use Rattle.std.specs.Prelude.{◌≡◌, [], ◌∷◌, true, IfSome, IsSome, IsSomeAnd};
 ghost use Rattle.fn_core.specs.Machine.{IsChange};
 ghost use Rattle.fn_table.specs.Seen.{IsOf, AreOpened};
 ghost use Rattle.fn_table.specs.Standing.{IsNumbered};
@@ -140,9 +140,12 @@ fn two_passes(table: &FunnelTable, mut passes: Vec<Pass>) -> Option<(Pass, Pass)
     requires two { table.now.start.shape.passes ≡ 2 }
     ensures { IfSome result (λ r. IsNumbered table.now r.0 0 × IsNumbered table.now r.1 1) }
 {
-    let second = passes.pop()?;
-    let first = passes.pop()?;
-    Some((first, second))
+    let second = passes.pop();
+    let first = passes.pop();
+    match (first, second) {
+        (Some(first), Some(second)) => Some((first, second)),
+        _ => None,
+    }
 }
 
 // The replies of two lanes, of two orders and of one, and the value.
@@ -234,6 +237,81 @@ fn ends(table: &FunnelTable, pending: Pending) -> Option<u64>
     }
 }
 
+// The calls of two lanes of one addition each.
+fn calls_of_adds<'a>(
+    alloc: Global,
+    table: &'a FunnelTable,
+    first: Pass,
+    second: Pass,
+    amount: u64,
+) -> Option<AllCalls<'a>>
+    requires first { IsOf table.now first × Rests first }
+    requires second { IsOf table.now second × Rests second }
+    ensures { IfSome result (λ calls. IsSome calls.lanes) }
+{
+    let first = lane_of_one(alloc, first, (Kind::Add, amount));
+    let second = lane_of_one(alloc, second, (Kind::Add, amount));
+    match (first, second) {
+        (Some(first), Some(second)) => calls_of_two(alloc, table, first, second),
+        _ => None,
+    }
+}
+
+// Whether a poll tells the lanes to wait.
+fn waits(task: &MockTask, calls: &mut AllCalls<'_>) -> bool
+    requires { IsSome calls.old.lanes }
+    ensures { result ≡ true → IsSome calls.new.lanes }
+{
+    match task.poll(calls) {
+        Poll::Ready(_) => false,
+        Poll::Pending => true,
+    }
+}
+
+// Two lanes are told twice to wait for a stalled call: what its poll then gives, and then they.
+fn reply_after(
+    task: &MockTask,
+    table: &FunnelTable,
+    stalled: Pending,
+    mut calls: AllCalls<'_>,
+) -> Option<(u64, Vec<LaneDone>)>
+    requires stalled { IsOf table.now stalled.pass }
+    requires calls { IsSome calls.lanes }
+{
+    if !waits(task, &mut calls) {
+        return None;
+    }
+    if !waits(task, &mut calls) {
+        return None;
+    }
+    let reply = ends(table, stalled)?;
+    match task.poll(&mut calls) {
+        Poll::Ready(dones) => Some((reply, dones)),
+        Poll::Pending => None,
+    }
+}
+
+// A pass begins a call, for which the lanes of two others have to wait.
+fn wait_for_it<R>(
+    rt: &R,
+    alloc: Global,
+    table: &FunnelTable,
+    first: Pass,
+    second: Pass,
+    third: Pass,
+) -> Option<(u64, Vec<LaneDone>)>
+where
+    R: RandomSource + AllocGlobal,
+    requires first { IsOf table.now first × Rests first }
+    requires second { IsOf table.now second × Rests second }
+    requires third { IsOf table.now third × Rests third }
+{
+    let stalled = starts(table, third, 1)?;
+    let calls = calls_of_adds(alloc, table, first, second, 2)?;
+    let task = MockTask::new(rt).ok()?;
+    reply_after(&task, table, stalled, calls)
+}
+
 // The third pass begins a call, for which two lanes have to wait: what its poll gives, and then they.
 fn wait_for_a_third<R>(
     rt: &R,
@@ -246,24 +324,14 @@ where
     requires opened { AreOpened table.now passes.items }
     requires three { table.now.start.shape.passes ≡ 3 }
 {
-    let third = passes.pop()?;
-    let second = passes.pop()?;
-    let first = passes.pop()?;
-    let stalled = starts(table, third, 1)?;
-    let first = lane_of_one(alloc, first, (Kind::Add, 2))?;
-    let second = lane_of_one(alloc, second, (Kind::Add, 2))?;
-    let mut calls = calls_of_two(alloc, table, first, second)?;
-    let task = MockTask::new(rt).ok()?;
-    let Poll::Pending = task.poll(&mut calls) else {
-        return None;
-    };
-    let Poll::Pending = task.poll(&mut calls) else {
-        return None;
-    };
-    let reply = ends(table, stalled)?;
-    match task.poll(&mut calls) {
-        Poll::Ready(dones) => Some((reply, dones)),
-        Poll::Pending => None,
+    let third = passes.pop();
+    let second = passes.pop();
+    let first = passes.pop();
+    match (first, second, third) {
+        (Some(first), Some(second), Some(third)) => {
+            wait_for_it(rt, alloc, table, first, second, third)
+        }
+        _ => None,
     }
 }
 

@@ -1,9 +1,7 @@
 //! Whole runs of lines of takes that go through a bucket.
-use crate::play_tests::words_of;
-use crate::trace_tests::{Crossing, USAGE, run_words};
-use edge_io::{MemSink, MemSource};
+use crate::runs::{run_on, sound};
+use crate::trace_tests::{USAGE, cross};
 use gates::OpenGate;
-use std::sync::atomic::Ordering;
 use std::test::Fail;
 
 #[derive(Clone, Copy)]
@@ -82,10 +80,7 @@ fn lines_of_takes_give_their_texts_or_faults(rt: HostRuntime) -> Result<(), Fail
         no_command("throttle 1 1 1"),
         no_command("throttle 65 1 1 1"),
     ] {
-        let words = words_of(&rt, row.line)?;
-        let source = MemSource::new(rt.alloc(), row.takes.as_bytes(), 100, &[])?;
-        let out = MemSink::new(rt.alloc(), 1000, 100, &[])?;
-        let ran = run_words(&rt, &words, source, out, &OpenGate)?;
+        let ran = run_on(&rt, row.line, row.takes.as_bytes(), sound(), &OpenGate)?;
         assert!(rt;
             ran.is(row.status, row.stdout.as_bytes(), row.stderr.as_bytes()),
             "{}",
@@ -97,12 +92,8 @@ fn lines_of_takes_give_their_texts_or_faults(rt: HostRuntime) -> Result<(), Fail
 
 #[test]
 fn takes_cross(rt: HostRuntime) -> Result<(), Fail> {
-    let words = words_of(&rt, "throttle 2 10 1 1000")?;
-    let gate = Crossing::new();
-    let source = MemSource::new(rt.alloc(), b"0 0 4\n1 0 4\n", 100, &[])?;
-    let out = MemSink::new(rt.alloc(), 1000, 100, &[])?;
-    let ran = run_words(&rt, &words, source, out, &gate)?;
-    assert!(rt; !gate.gave_up.load(Ordering::SeqCst));
-    assert!(rt; ran.is(0, b"1 6 4 0\n2 10 4 0\ntick 0 value 2\n", b""));
+    let (ran, gave_up) = cross(&rt, "throttle 2 10 1 1000", b"0 0 4\n1 0 4\n")?;
+    let text = b"1 6 4 0\n2 10 4 0\ntick 0 value 2\n";
+    assert!(rt; !gave_up && ran.is(0, text, b""));
     Ok(())
 }

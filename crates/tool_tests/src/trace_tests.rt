@@ -1,6 +1,5 @@
 //! Whole runs of traces and of lines on fakes of the streams.
-use crate::play_tests::{Ran, words_of};
-use edge_io::{MemSink, MemSource};
+use crate::runs::{Ran, failing_reads, failing_writes, run_on, sound};
 use gates::{Gate, OpenGate};
 use quota_pool::Moved;
 use std::alloc::{AllocGlobal, Global};
@@ -9,7 +8,6 @@ use std::sync::Wait;
 use std::sync::atomic::{AtomicBool, Ordering};
 use std::test::Fail;
 use std::thread::Threads;
-use tool_run::run;
 
 #[derive(Clone, Copy)]
 struct Row {
@@ -493,34 +491,17 @@ static ROWS: [Row; 55] = [
 ];
 
 // The bytes of a trace.
-fn trace_of(rt: &HostRuntime, first: &str, records: &str) -> Result<Vec<u8>, Fail> {
-    let mut bytes = Vec::from_slice(rt.alloc(), first.as_bytes())?;
+fn trace_of(alloc: Global, first: &str, records: &str) -> Result<Vec<u8>, Fail> {
+    let mut bytes = Vec::from_slice(alloc, first.as_bytes())?;
     bytes.extend_from_slice(records.as_bytes())?;
     Ok(bytes)
-}
-
-// Runs a command.
-pub(crate) fn run_words<R: Threads + Wait + Sync + RandomSource + AllocGlobal, G: Gate + Sync>(
-    rt: &R,
-    words: &[String],
-    mut source: MemSource,
-    mut out: MemSink,
-    gate: &G,
-) -> Result<Ran, Fail> {
-    let alloc = rt.alloc();
-    let mut err = MemSink::new(alloc, 1000, 100, &[])?;
-    let outcome = run(rt, alloc, words, &mut source, &mut out, &mut err, gate);
-    Ran::of(alloc, outcome, &out, &err)
 }
 
 #[test]
 fn traces_give_their_reports_or_faults(rt: HostRuntime) -> Result<(), Fail> {
     for row in &ROWS {
-        let words = words_of(&rt, row.line)?;
-        let bytes = trace_of(&rt, row.first, row.records)?;
-        let source = MemSource::new(rt.alloc(), &bytes, 100, &[])?;
-        let out = MemSink::new(rt.alloc(), 1000, 100, &[])?;
-        let ran = run_words(&rt, &words, source, out, &OpenGate)?;
+        let bytes = trace_of(rt.alloc(), row.first, row.records)?;
+        let ran = run_on(&rt, row.line, &bytes, sound(), &OpenGate)?;
         assert!(rt;
             ran.is(row.status, row.stdout.as_bytes(), row.stderr.as_bytes()),
             "{}",
@@ -532,41 +513,49 @@ fn traces_give_their_reports_or_faults(rt: HostRuntime) -> Result<(), Fail> {
 
 #[test]
 fn each_write_may_fail(rt: HostRuntime) -> Result<(), Fail> {
-    let words = words_of(&rt, "replay 1")?;
-    let bytes = trace_of(&rt, PLAIN, DISK)?;
+    let bytes = trace_of(rt.alloc(), PLAIN, DISK)?;
     for write in 0..8 {
-        let source = MemSource::new(rt.alloc(), &bytes, 100, &[])?;
-        let out = MemSink::new(rt.alloc(), 1000, 10, &[write])?;
-        let ran = run_words(&rt, &words, source, out, &OpenGate)?;
+        let failing = [write];
+        let streams = failing_writes(100, &failing);
+        let ran = run_on(&rt, "replay 1", &bytes, streams, &OpenGate)?;
         let (status, held, line) = if write < 7 {
             (5, write * 10, "write failed\n")
         } else {
             (0, 62, "")
         };
-        assert_eq!(rt; ran.outcome.status, status);
-        assert_eq!(rt; ran.text.len() as u64, held);
-        assert!(rt; LINES.as_bytes().starts_with(&ran.text));
-        assert_eq!(rt; ran.line.as_slice(), line.as_bytes());
+        let front = ran.text.len() as u64 == held && LINES.as_bytes().starts_with(&ran.text);
+        assert!(rt; front && ran.is(status, &ran.text, line.as_bytes()));
     }
     Ok(())
 }
 
+// Whether a run of a whole trace, of which this read fails, read all; none where it told something else.
+fn has_read_all<R: Threads + Wait + Sync + RandomSource + AllocGlobal>(
+    rt: &R,
+    bytes: &[u8],
+    read: u64,
+) -> Result<Option<bool>, Fail> {
+    let failing = [read];
+    let streams = failing_reads(16, &failing);
+    let ran = run_on(rt, "replay 1", bytes, streams, &OpenGate)?;
+    if ran.is(0, LINES.as_bytes(), b"") {
+        return Ok(Some(true));
+    }
+    if ran.is(4, b"", b"read failed\n") {
+        return Ok(Some(false));
+    }
+    Ok(None)
+}
+
 #[test]
 fn each_read_may_fail(rt: HostRuntime) -> Result<(), Fail> {
-    let words = words_of(&rt, "replay 1")?;
-    let bytes = trace_of(&rt, PLAIN, DISK)?;
+    let bytes = trace_of(rt.alloc(), PLAIN, DISK)?;
     let mut all_read = false;
     for read in 0..12 {
-        let source = MemSource::new(rt.alloc(), &bytes, 16, &[read])?;
-        let out = MemSink::new(rt.alloc(), 1000, 100, &[])?;
-        let ran = run_words(&rt, &words, source, out, &OpenGate)?;
-        if ran.outcome.status == 0 {
-            all_read = true;
-        } else {
-            assert!(rt; !all_read);
-            assert_eq!(rt; ran.outcome.status, 4);
-            assert_eq!(rt; ran.text.len(), 0);
-            assert_eq!(rt; ran.line.as_slice(), b"read failed\n".as_slice());
+        match has_read_all(&rt, &bytes, read)? {
+            Some(true) => all_read = true,
+            Some(false) => assert!(rt; !all_read),
+            None => assert!(&rt; false),
         }
     }
     assert!(rt; all_read);
@@ -591,35 +580,43 @@ fn befores_of(alloc: Global, answers: &[Moved]) -> Result<Vec<u64>, Fail> {
     Ok(befores)
 }
 
+// Runs a trace of so many rounds of additions by four workers.
+fn add_by_four<R: Threads + Wait + Sync + RandomSource + AllocGlobal>(
+    rt: &R,
+    rounds: u32,
+) -> Result<Ran, Fail> {
+    let mut bytes = trace_of(rt.alloc(), PLAIN, "0,open,d,0\n")?;
+    push_rounds(&mut bytes, rounds)?;
+    let mut streams = sound();
+    streams.read = 4096;
+    streams.room = 1_000_000;
+    streams.write = 1_000_000;
+    run_on(rt, "replay 4", &bytes, streams, &OpenGate)
+}
+
 #[test]
 fn four_workers_add_up(rt: HostRuntime) -> Result<(), Fail> {
-    let words = words_of(&rt, "replay 4")?;
-    let mut bytes = trace_of(&rt, PLAIN, "0,open,d,0\n")?;
-    push_rounds(&mut bytes, 1000)?;
-    let source = MemSource::new(rt.alloc(), &bytes, 4096, &[])?;
-    let out = MemSink::new(rt.alloc(), 1_000_000, 1_000_000, &[])?;
-    let ran = run_words(&rt, &words, source, out, &OpenGate)?;
-    assert_eq!(rt; ran.outcome.status, 0);
-    assert!(rt; ran.text.ends_with(b"\ntotal,d,0,4000,0,4000\n".as_slice()));
-    assert!(rt; ran.outcome.answers.iter().all(|answer| answer.moved == 1));
+    let ran = add_by_four(&rt, 1000)?;
+    let total = b"\ntotal,d,0,4000,0,4000\n";
+    let is_whole = ran.outcome.status == 0 && ran.text.ends_with(total.as_slice());
+    assert!(rt; is_whole && ran.outcome.answers.iter().all(|answer| answer.moved == 1));
     let befores = befores_of(rt.alloc(), &ran.outcome.answers)?;
     assert_eq!(rt; befores.len(), 4000);
-    for (i, before) in befores.iter().enumerate() {
-        assert_eq!(rt; *before, i as u64);
-    }
+    let in_order = |(i, before): (usize, &u64)| *before == i as u64;
+    assert!(rt; befores.iter().enumerate().all(in_order));
     Ok(())
 }
 
 // A gate at which the first two rows wait until both have begun, and the first then until the second is answered.
 #[derive(Drop)]
-pub(crate) struct Crossing {
+struct Crossing {
     begun: [AtomicBool; 2],
     answered: AtomicBool,
-    pub(crate) gave_up: AtomicBool,
+    gave_up: AtomicBool,
 }
 
 impl Crossing {
-    pub(crate) fn new() -> Crossing {
+    fn new() -> Crossing {
         Crossing {
             begun: [AtomicBool::new(false), AtomicBool::new(false)],
             answered: AtomicBool::new(false),
@@ -661,48 +658,39 @@ impl Gate for Crossing {
     }
 }
 
+// Runs a command at which two workers cross: what it came to, and whether one gave up waiting.
+pub(crate) fn cross<R: Threads + Wait + Sync + RandomSource + AllocGlobal>(
+    rt: &R,
+    line: &str,
+    bytes: &[u8],
+) -> Result<(Ran, bool), Fail> {
+    let gate = Crossing::new();
+    let ran = run_on(rt, line, bytes, sound(), &gate)?;
+    Ok((ran, gate.gave_up.load(Ordering::SeqCst)))
+}
+
 #[test]
 fn workers_run_beside_each_other(rt: HostRuntime) -> Result<(), Fail> {
-    let words = words_of(&rt, "replay 2")?;
-    let bytes = trace_of(&rt, PLAIN, "0,open,t,0\n0,add,t,1\n1,add,t,2\n")?;
-    let gate = Crossing::new();
-    let source = MemSource::new(rt.alloc(), &bytes, 100, &[])?;
-    let out = MemSink::new(rt.alloc(), 1000, 100, &[])?;
-    let ran = run_words(&rt, &words, source, out, &gate)?;
-    assert_eq!(rt; ran.outcome.status, 0);
-    assert!(rt; !gate.gave_up.load(Ordering::SeqCst));
-    assert_eq!(rt;
-        ran.text.as_slice(),
-        b"row,2,2,1\nrow,3,0,2\ntotal,t,0,3,0,3\n".as_slice()
-    );
+    let bytes = trace_of(rt.alloc(), PLAIN, "0,open,t,0\n0,add,t,1\n1,add,t,2\n")?;
+    let (ran, gave_up) = cross(&rt, "replay 2", &bytes)?;
+    let text = b"row,2,2,1\nrow,3,0,2\ntotal,t,0,3,0,3\n";
+    assert!(rt; !gave_up && ran.is(0, text, b""));
     Ok(())
 }
 
 #[test]
 fn lines_cross(rt: HostRuntime) -> Result<(), Fail> {
-    let words = words_of(&rt, "relay 2 2")?;
-    let gate = Crossing::new();
-    let source = MemSource::new(rt.alloc(), b"a\nb\n", 100, &[])?;
-    let out = MemSink::new(rt.alloc(), 1000, 100, &[])?;
-    let ran = run_words(&rt, &words, source, out, &gate)?;
-    assert_eq!(rt; ran.outcome.status, 0);
-    assert!(rt; !gate.gave_up.load(Ordering::SeqCst));
-    assert_eq!(rt; ran.text.as_slice(), b"0 b\n1 a\n".as_slice());
+    let (ran, gave_up) = cross(&rt, "relay 2 2", b"a\nb\n")?;
+    assert!(rt; !gave_up && ran.is(0, b"0 b\n1 a\n", b""));
     Ok(())
 }
 
 #[test]
 fn too_many_lines_are_refused(rt: HostRuntime) -> Result<(), Fail> {
-    let words = words_of(&rt, "relay 1 1")?;
     let bytes = vec![in rt.alloc(); b'\n'; 1_000_001]?;
-    let source = MemSource::new(rt.alloc(), &bytes, 65_536, &[])?;
-    let out = MemSink::new(rt.alloc(), 1000, 100, &[])?;
-    let ran = run_words(&rt, &words, source, out, &OpenGate)?;
-    assert_eq!(rt; ran.outcome.status, 3);
-    assert_eq!(rt; ran.text.len(), 0);
-    assert_eq!(rt;
-        ran.line.as_slice(),
-        b"refused: too many at 1000001\n".as_slice()
-    );
+    let mut streams = sound();
+    streams.read = 65_536;
+    let ran = run_on(&rt, "relay 1 1", &bytes, streams, &OpenGate)?;
+    assert!(rt; ran.is(3, b"", b"refused: too many at 1000001\n"));
     Ok(())
 }
