@@ -14,6 +14,8 @@ use Rattle.fn_core.specs.Machine.{IsStart}
 use Rattle.fn_core.specs.Words.{Own}
 use Rattle.fn_table.specs.Funnel.{funnel}
 use Rattle.fn_table.specs.Seen.{event, glances}
+use Rattle.fn_table.specs.declared.spots.Spots.{Spots}
+use Rattle.fn_table.specs.Spots.{spots_of}
 use Rattle.fn_table.specs.Seats.{Known}
 use Rattle.fn_table.proofs.Glances.{Rests, glance_keeps, glances_idle, glances_legal, glance_more}
 use Rattle.fn_table.proofs.Owes.{IsSeatOf, event_of}
@@ -75,21 +77,21 @@ glance_tells start k n me me' some is t same =
     let none : me'.1 ≡ [] = same ∙ ap (λ (x : Me (Unit {0}) Known). x.1) is in
     λ i. (one i, none i)
 
-fresh_seat : (z : TableId) (start : Start) (n k : ℕ) → IsStart start → n < start.shape.passes → IsSeatOf n z (knows start (n ∷ []) (glances k), [])
-fresh_seat z start n k ok inside = (record { parts = refl }, refl, (ok, glances_legal start k (omega arith)), inside)
+fresh_seat : (z : TableId) (start : Start) (n k : ℕ) → IsStart start → n < start.shape.passes → IsSeatOf n (spots_of start.shape n) z (knows start (n ∷ []) (glances k), [])
+fresh_seat z start n k ok inside = (record { parts = refl }, refl, (ok, glances_legal start k (omega arith)), inside, refl)
 
 -- the seat that gets a number
-pub given_seat : (z : TableId) (start : Start) (k taken : ℕ) (me me' : Me (Unit {0}) Known) → k < start.shape.passes → IsStart start
-    → me ≡ (knows start (0 ∷ numbers_from k (start.shape.passes - k)) (glances taken), []) → me' ≡ (handed me.0, []) → (me' ≡ (knows start (k ∷ []) (glances taken), [])) × IsSeatOf k z me'
-given_seat z start k taken me me' h ok is is' =
+pub given_seat : (z : TableId) (start : Start) (k taken : ℕ) (me me' : Me (Unit {0}) Known) (spots : Spots) → k < start.shape.passes → IsStart start
+    → me ≡ (knows start (0 ∷ numbers_from k (start.shape.passes - k)) (glances taken), []) → me' ≡ (handed me.0, []) → spots ≡ spots_of start.shape k → (me' ≡ (knows start (k ∷ []) (glances taken), [])) × IsSeatOf k spots z me'
+given_seat z start k taken me me' spots h ok is is' mine =
     let given : me' ≡ (knows start (k ∷ []) (glances taken), []) =
     is' ∙ (ap (λ (x : Me (Unit {0}) Known). (handed x.0, [])) is ∙ ap (λ (ns : List ℕ). (handed (knows start (0 ∷ ns) (glances taken)), [])) (next_numbers k start.shape.passes h)) in
-    (given, subst (IsSeatOf k z) (sym given) (fresh_seat z start k taken ok h))
+    (given, subst (λ (x : Spots × Me (Unit {0}) Known). IsSeatOf k x.0 z x.1) (λ i. (sym mine i, sym given i)) (fresh_seat z start k taken ok h))
 
 -- the seat that dealt, once it keeps 0 alone
-pub dealer_seat : (z : TableId) (start : Start) (k taken : ℕ) (me : Me (Unit {0}) Known) → start.shape.passes ≤ k → 0 < start.shape.passes → IsStart start
-    → me ≡ (knows start (0 ∷ numbers_from k (start.shape.passes - k)) (glances taken), []) → (me ≡ (knows start (0 ∷ []) (glances taken), [])) × IsSeatOf 0 z me
-dealer_seat z start k taken me last some ok is =
+pub dealer_seat : (z : TableId) (start : Start) (k taken : ℕ) (me : Me (Unit {0}) Known) (spots : Spots) → start.shape.passes ≤ k → 0 < start.shape.passes → IsStart start
+    → me ≡ (knows start (0 ∷ numbers_from k (start.shape.passes - k)) (glances taken), []) → spots ≡ spots_of start.shape 0 → (me ≡ (knows start (0 ∷ []) (glances taken), [])) × IsSeatOf 0 spots z me
+dealer_seat z start k taken me spots last some ok is mine =
     let none : start.shape.passes - k ≡ 0 = omega arith in
-    let mine : me ≡ (knows start (0 ∷ []) (glances taken), []) = is ∙ (λ i. (knows start (0 ∷ numbers_from k (none i)) (glances taken), [])) in
-    (mine, subst (IsSeatOf 0 z) (sym mine) (fresh_seat z start 0 taken ok some))
+    let here : me ≡ (knows start (0 ∷ []) (glances taken), []) = is ∙ (λ i. (knows start (0 ∷ numbers_from k (none i)) (glances taken), [])) in
+    (here, subst (λ (x : Spots × Me (Unit {0}) Known). IsSeatOf 0 x.0 z x.1) (λ i. (sym mine i, sym here i)) (fresh_seat z start 0 taken ok some))

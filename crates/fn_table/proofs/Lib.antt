@@ -10,9 +10,9 @@ pub mod Meets
 pub mod Gathers
 pub mod Closed
 pub mod Spares
+pub mod RowWords
 pub mod Keeping
 pub mod Published
-pub mod Stages
 pub mod OwnCalls
 pub mod Later
 pub mod Claims

@@ -10,6 +10,8 @@ use Rattle.fn_core.specs.declared.Move.TheVariants.{Glance}
 use Rattle.fn_core.specs.Calls.{IsIdle}
 use Rattle.fn_table.specs.Funnel.{funnel}
 use Rattle.fn_table.specs.Seen.{PassView, NoteView, event, Met}
+use Rattle.fn_table.specs.declared.spots.Spots.{Spots}
+use Rattle.fn_table.specs.Spots.{spots_of}
 use Rattle.fn_table.specs.Seats.{Known, shown, shown_note, HasOne, HasNone}
 use Rattle.fn_table.proofs.Glances.{Rests, glance_keeps}
 use Rattle.fn_table.proofs.Owes.{IsSeatOf, event_of, keeps_one, tells}
@@ -22,10 +24,10 @@ both_parts : (n : ℕ) (v u : Known) → HasOne n v → HasNone u → joined v u
 both_parts n v u one none = λ i. view v.start (one.parts i ++ none.parts i)
 
 -- the Glance that ends a meeting
-pub glance_met : (key : Start) (slots id : ℕ) (z : TableId) (n : ℕ) (own : Me (Unit {0}) Known) (u : Known) (p : PassView) (me : Me (Unit {0}) Known) (carried : List (ℕ × Unit {0})) → shown z n own.0 ≡ p → IsSeatOf n z own → HasNone u
+pub glance_met : (key : Start) (slots id : ℕ) (z : TableId) (n : ℕ) (spots : Spots) (own : Me (Unit {0}) Known) (u : Known) (p : PassView) (me : Me (Unit {0}) Known) (carried : List (ℕ × Unit {0})) → shown z n own.0 ≡ p → IsSeatOf n spots z own → HasNone u
     → IsIdle p.seen p.number → me ≡ (joined own.0 u, carried)
     → Allows (Running funnel key) slots id me 0 (λ k. k) (λ k after. TookAt funnel (event_of me.0 Glance) me.0 k after.0 × (after.1 ≡ me.1))
-glance_met key slots id z n own u p me carried is seat none idle same =
+glance_met key slots id z n spots own u p me carried is seat none idle same =
     let v : Known = own.0 in
     let q : Part Event = part (n ∷ []) (log_of v.parts) in
     let w : Known = view v.start (q ∷ part [] (log_of u.parts) ∷ []) in
@@ -49,14 +51,19 @@ took_alone n v u x w k one none met t =
     (record { took = record { before = t'.took.before; now = t'.took.now; legal = t'.took.legal; parts = (t'.took.parts.0, tt) }; answer = t'.answer }, t'.took.parts.1)
 
 -- what a meeting tells
-pub meet_tells : (z z' z'' : TableId) (n : ℕ) (own : Me (Unit {0}) Known) (u x w : Known) (p : PassView) (q : NoteView) (k : ℕ) → shown z n own.0 ≡ p → shown_note z'' u ≡ q → IsSeatOf n z own → HasNone u → z' ≡ z → x ≡ joined own.0 u → TookAt funnel (event_of x Glance) x k w → Met p q (shown z' n w)
-meet_tells z z' z'' n own u x w p q k is is' seat none same met t =
+pub meet_tells : (z z' z'' : TableId) (n : ℕ) (spots : Spots) (own : Me (Unit {0}) Known) (u x w : Known) (p : PassView) (q : NoteView) (k : ℕ) → shown z n own.0 ≡ p → shown_note z'' u ≡ q → IsSeatOf n spots z own → HasNone u → z' ≡ z → x ≡ joined own.0 u → TookAt funnel (event_of x Glance) x k w → Met p q (shown z' n w)
+meet_tells z z' z'' n spots own u x w p q k is is' seat none same met t =
     let mine = took_alone n own.0 u x w k seat.0 none met t in
     subst (λ (y : PassView × NoteView). Met y.0 y.1 (shown z' n w)) (λ i. (is i, is' i)) (record { stepped = (k, tells z z' n own.0 w Glance k seat.2 same mine.0); note = mine.1.0.begins })
 
 -- and its seat is still that of the pass
-pub met_still : (z : TableId) (n : ℕ) (own : Me (Unit {0}) Known) (u : Known) (me me' : Me (Unit {0}) Known) (k : ℕ) → IsSeatOf n z own → HasNone u → me ≡ (joined own.0 u, own.1) → TookAt funnel (event_of me.0 Glance) me.0 k me'.0 → me'.1 ≡ me.1 → IsSeatOf n z me'
-met_still z n own u me me' k seat none met t same =
+pub met_still : (z : TableId) (n : ℕ) (spots : Spots) (own : Me (Unit {0}) Known) (u : Known) (me me' : Me (Unit {0}) Known) (k : ℕ) → IsSeatOf n spots z own → HasNone u → me ≡ (joined own.0 u, own.1) → TookAt funnel (event_of me.0 Glance) me.0 k me'.0 → me'.1 ≡ me.1 → IsSeatOf n spots z me'
+met_still z n spots own u me me' k seat none met t same =
     let mine = took_alone n own.0 u me.0 me'.0 k seat.0 none (ap (λ (x : Me (Unit {0}) Known). x.0) met) t in
-    let now = mine.0.took.now in
-    (subst (HasOne n) (sym now) (record { parts = refl }), same ∙ ap (λ (x : Me (Unit {0}) Known). x.1) met ∙ seat.1, (tells z z n own.0 me'.0 Glance k seat.2 refl mine.0).legal, subst (λ (u : Known). n < u.start.shape.passes) (sym now) seat.3)
+    let start : own.0.start ≡ me'.0.start = sym (ap (λ (u : Known). u.start) mine.0.took.now) in (
+      subst (HasOne n) (sym mine.0.took.now) (record { parts = refl }),
+      same ∙ ap (λ (x : Me (Unit {0}) Known). x.1) met ∙ seat.1,
+      (tells z z n own.0 me'.0 Glance k seat.2 refl mine.0).legal,
+      subst (λ (b : Start). n < b.shape.passes) start seat.3,
+      seat.4 ∙ ap (λ (b : Start). spots_of b.shape n) start,
+    )

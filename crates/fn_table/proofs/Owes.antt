@@ -19,6 +19,8 @@ use Rattle.fn_core.specs.Calls.{state_in, IsLegal}
 use Rattle.fn_core.proofs.Public.{words_are_found}
 use Rattle.fn_table.specs.Funnel.{MayTake, funnel}
 use Rattle.fn_table.specs.Seen.{TableView, PassView, IsOf, May, Stepped, own_of, event, place}
+use Rattle.fn_table.specs.declared.spots.Spots.{Spots}
+use Rattle.fn_table.specs.Spots.{spots_of}
 use Rattle.fn_table.specs.Seats.{Known, shown, HasOne, IsStep, taken_by}
 use Rattle.fn_table.proofs.FunnelLaws.{laws, logs_are_legal, guards_are_own, steps_are_told}
 use Rattle.fn_table.proofs.States.{own_is, is_legal}
@@ -117,13 +119,19 @@ one_still n v w step one t =
     subst (λ u. HasOne n u) (sym t'.now) (record { parts = refl })
 
 -- what holds of the seat of a pass
-abbrev pub IsSeatOf : ℕ → TableId → Me (Unit {0}) Known → Type 0
-IsSeatOf n z me = HasOne n me.0 × (me.1 ≡ []) × IsLegal (shown z n me.0).seen × (n < me.0.start.shape.passes)
+abbrev pub IsSeatOf : ℕ → Spots → TableId → Me (Unit {0}) Known → Type 0
+IsSeatOf n spots z me = HasOne n me.0 × (me.1 ≡ []) × IsLegal (shown z n me.0).seen × (n < me.0.start.shape.passes) × (spots ≡ spots_of me.0.start.shape n)
 
 -- it holds after the step too
-pub seat_still : (z : TableId) (n : ℕ) (me me' : Me (Unit {0}) Known) (step : Move) (k : ℕ) → IsSeatOf n z me → TookAt funnel (event_of me.0 step) me.0 k me'.0 → me'.1 ≡ me.1 → IsSeatOf n z me'
-seat_still z n me me' step k is t same =
-    (one_still n me.0 me'.0 step is.0 t.took, same ∙ is.1, (tells z z n me.0 me'.0 step k is.2 refl (from_one (λ u. TookAt funnel (event_of u step) u k me'.0) n me.0 is.0 t)).legal, subst (λ (u : Known). n < u.start.shape.passes) (sym t.took.now) is.3)
+pub seat_still : (z : TableId) (n : ℕ) (spots : Spots) (me me' : Me (Unit {0}) Known) (step : Move) (k : ℕ) → IsSeatOf n spots z me → TookAt funnel (event_of me.0 step) me.0 k me'.0 → me'.1 ≡ me.1 → IsSeatOf n spots z me'
+seat_still z n spots me me' step k is t same =
+    let start : me.0.start ≡ me'.0.start = sym (ap (λ (u : Known). u.start) t.took.now) in (
+      one_still n me.0 me'.0 step is.0 t.took,
+      same ∙ is.1,
+      (tells z z n me.0 me'.0 step k is.2 refl (from_one (λ u. TookAt funnel (event_of u step) u k me'.0) n me.0 is.0 t)).legal,
+      subst (λ (b : Start). n < b.shape.passes) start is.3,
+      is.4 ∙ ap (λ (b : Start). spots_of b.shape n) start,
+    )
 
 -- a pass that has taken a step was legal before it
 pub legal_before : (p q : PassView) (step : Move) (n : ℕ) → Stepped p step n q → IsLegal p.seen

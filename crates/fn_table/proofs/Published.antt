@@ -2,7 +2,7 @@
 use Rattle.std.proofs.Common.{◌≡◌, ◌≢◌, ◌⊎◌, inl, inr, Bool, true, false, ℕ, zero, suc, ◌+◌, ◌-◌, ◌*◌, ◌%◌, ◌≤◌, ◌<◌, ◌==◌, List, length, slice_index, slice_set, refl, sym, ap, ◌∙◌, subst, arith, eq-eqb, ne_eqb, get_or-set_same}
 use Rattle.std.specs.Prelude.{if◌then◌else◌, replicate, get_or}
 use Rattle.std.proofs.lemmas.Bool.{cases_eq, cases_lt}
-use Rattle.std.proofs.lemmas.Nat.{mod_below, mul-add-lt}
+use Rattle.std.proofs.lemmas.Nat.{mod_below, mod-mul-add, mul-add-lt}
 use Rattle.std.proofs.lemmas.List.{get_or-set_other, length-set, get_or-replicate, length-replicate}
 use Rattle.std.proofs.Math.Nat.{mod-eq_of_lt}
 use Rattle.fn_model.specs.declared.Kind.{Kind}
@@ -11,10 +11,11 @@ use Rattle.fn_rows.specs.declared.Field.TheVariants.{Lo}
 use Rattle.fn_rows.specs.declared.Stage.{Stage}
 use Rattle.fn_rows.specs.declared.Stage.TheVariants.{Filled, Pointed}
 use Rattle.fn_layout.specs.declared.shape.Shape.{Shape}
-use Rattle.fn_layout.specs.Tree.{member}
-use Rattle.fn_layout.specs.Words.{RowWord, IsSlot, row_number, row_word_number}
+use Rattle.fn_layout.specs.Tree.{IsLevel, member}
+use Rattle.fn_layout.specs.Words.{RowWord, IsAggregator, IsSlot, slot_number, row_number, row_word_number}
 use Rattle.fn_layout.proofs.Read.{names_are_distinct}
 use Rattle.fn_core.specs.declared.Start.{Start}
+use Rattle.fn_core.specs.declared.Move.{Move}
 use Rattle.fn_core.specs.declared.Move.TheVariants.{Point, Publish}
 use Rattle.fn_core.specs.declared.Position.{Position}
 use Rattle.fn_core.specs.State.{State, opened}
@@ -25,12 +26,12 @@ use Rattle.fn_core.specs.Calls.{IsLegal}
 use Rattle.fn_core.proofs.Public.{positions_fit}
 use Rattle.fn_table.specs.declared.tally.Tally.{Tally}
 use Rattle.fn_table.specs.Seen.{TableView, PassView, May, Stepped, own_of, fresh}
+use Rattle.fn_table.specs.Spots.{spot_of}
 use Rattle.fn_table.specs.Kept.{KeepsOwn, Keeps}
 use Rattle.fn_layout.specs.Kinds.{kind_number}
 use Rattle.fn_table.proofs.Spares.{level_case, level_here}
 use Rattle.fn_table.proofs.Keeping.{keeps_after}
 use Rattle.fn_table.proofs.Glances.{glances_run}
-use Rattle.fn_table.proofs.Owes.{named, legal_before}
 use Rattle.fn_core.specs.Machine.{MayPoint}
 
 decides : (k kind : Kind) → (k ≡ kind) ⊎ (k ≢ kind)
@@ -170,8 +171,23 @@ keeps_at_open p t n shape allowances u is same all fields ends =
     subst (λ (x : PassView). Keeps x u) (sym is)
     (keeps_fresh t n u (fields.0 ∙ ap (λ (xs : List ℕ). get_or xs n 0) all) fields.1 fields.2 (ends ∙ ap (λ (s : Shape). replicate (2 * s.levels * s.rows) 0) same))
 
--- the slot of the row that is published
-pub slot_of_publish : (p q : PassView) (kind : Kind) (level n : ℕ) → May p (Publish kind level) → Stepped p (Publish kind level) n q → IsSlot p.seen.start.shape 0 kind level
-slot_of_publish p q kind level n may s =
-    let n = named p (Publish kind level) (legal_before p q (Publish kind level) n s) may in
-    (omega (arith, p.seen.start.shape.passes_in_range), n.0, n.1)
+-- where a pass stands after a step, it stood before
+pub still_there : (p q : PassView) (step : Move) (n : ℕ) (kind : Kind) (level : ℕ) → Stepped p step n q → spot_of q.seen.start.shape q.number kind level ≡ spot_of p.seen.start.shape p.number kind level
+still_there p q step n kind level s = ap (λ (x : PassView). spot_of x.seen.start.shape x.number kind level) s.now
+
+pub level_still : (p q : PassView) (step : Move) (n level : ℕ) → Stepped p step n q → IsLevel p.seen.start.shape level → IsLevel q.seen.start.shape level
+level_still p q step n level s is = subst (λ (x : PassView). IsLevel x.seen.start.shape level) (sym s.now) is
+
+-- the slot of the first pass at an aggregator
+pub slot_of : (shape : Shape) (kind : Kind) (level index : ℕ) → IsAggregator shape kind level index → IsSlot shape 0 kind level
+slot_of shape kind level index is = (omega (arith, shape.passes_in_range), is.0, is.1)
+
+-- how far a row stands behind the first one of its slot
+pub row_behind : (shape : Shape) (pass : ℕ) (kind : Kind) (level n row first : ℕ) → n < shape.rows → row ≡ row_number shape pass kind level n → first ≡ row_number shape pass kind level 0 → (first ≤ row) × (row - first ≡ row % shape.rows)
+row_behind shape pass kind level n row first few is begins =
+    let rest : row % shape.rows ≡ n = ap (λ (x : ℕ). x % shape.rows) is ∙ mod-mul-add (slot_number shape pass kind level) shape.rows n few in
+    (omega (arith, is, begins), omega (arith, is, begins, rest))
+
+-- .. whose number is that one's and its own number among them
+pub row_follows : (shape : Shape) (pass : ℕ) (kind : Kind) (level n first : ℕ) → first ≡ row_number shape pass kind level 0 → first + n ≡ row_number shape pass kind level n
+row_follows shape pass kind level n first begins = omega (arith, begins)

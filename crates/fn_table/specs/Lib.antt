@@ -1,5 +1,6 @@
 pub mod Funnel
 pub mod Seen
+pub mod Spots
 pub mod Seats
 pub mod Kept
 pub mod Standing

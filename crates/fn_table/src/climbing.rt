@@ -115,7 +115,7 @@ pub fn point(table: &FunnelTable, pass: &mut Pass, kind: Kind, level: u32, row: 
 {
     let step = Move::Point { kind, level, row };
     store(table, &mut pass.caller, u64::from(row) + 1, step);
-    pass.tally.pointed = row % table.shape.rows();
+    pass.tally.pointed = row - pass.caller.spot(kind, level).row;
 }
 
 /// Stores the end of the pass's batch in `done`.
@@ -126,7 +126,8 @@ pub fn publish(table: &FunnelTable, pass: &mut Pass, kind: Kind, level: u32, end
     ensures { Stored pass.old (Publish kind level) pass.new }
 {
     store(table, &mut pass.caller, end, Move::Publish { kind, level });
-    pass.tally.publish(table.shape, kind, level, end);
+    let place = pass.caller.spot(kind, level).end + pass.tally.pointed;
+    pass.tally.publish(place, end);
 }
 
 /// Loads a word of the row in hand.

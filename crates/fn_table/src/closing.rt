@@ -21,10 +21,7 @@ fn gather(words: &Words, passes: Vec<Pass>) -> Place
     let (_, mut seat) = words.load_new_seat::<Sits>(0);
     for pass in passes {
         let Pass { caller, .. } = pass;
-        let Seated {
-            seat: other,
-            number: _,
-        } = caller;
+        let Seated { seat: other, .. } = caller;
         words.join_seat::<Meets>(&mut seat, other);
     }
     seat

@@ -5,6 +5,8 @@ ghost use Rattle.fn_table.specs.Seats.{IsDealer};
 
 use crate::rule::{Finds, Hands, Place, Words};
 use crate::seated::Seated;
+use crate::spots::all_spots;
+use fn_layout::Shape;
 use std::marker::Brand;
 
 /// A Glance of the first pass, before any other has a seat.
@@ -19,8 +21,9 @@ pub fn glance(words: &Words, seat: &mut Place, taken: u32)
 }
 
 /// Gives the next number to a new pass.
-pub fn deal(words: &Words, seat: &mut Place, number: u32) -> Seated
+pub fn deal(words: &Words, seat: &mut Place, shape: Shape, number: u32) -> Seated
     requires words { 0 < words.now.table_id.words }
+    requires shape { shape ≡ seat.old.me.0.start.shape }
     requires inside { (0 < number) × (number < seat.old.me.0.start.shape.passes) }
     requires dealer { IsDealer words.now.table_id seat.old.me.0.start number (seat.old.me.0.start.shape.passes - 1) seat.old }
     ensures dealer { IsDealer words.now.table_id seat.old.me.0.start (number + 1) (seat.old.me.0.start.shape.passes - 1) seat.new }
@@ -29,5 +32,6 @@ pub fn deal(words: &Words, seat: &mut Place, number: u32) -> Seated
     Seated {
         seat: words.split_seat::<Hands>(seat),
         number,
+        spots: all_spots(shape, number),
     }
 }

@@ -11,6 +11,7 @@ mod opening;
 mod pass;
 mod rule;
 mod seated;
+mod spots;
 mod steps;
 mod table;
 mod tally;
@@ -30,6 +31,7 @@ pub use fn_layout::{Field, Kind, Shape};
 pub use main_word::{apply_batch, direct, exchange, load_read, load_try};
 pub use meeting::{meet, note};
 pub use pass::{Note, Pass};
+pub use spots::Spot;
 pub use table::FunnelTable;
 
 /// The funnel is a machine of the running rule: after every legal log each event changes its one word alone, and leaves what the other passes' guards read.

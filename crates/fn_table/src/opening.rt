@@ -10,6 +10,7 @@ use crate::dealing::{deal, glance};
 use crate::pass::Pass;
 use crate::rule::{Place, Words};
 use crate::seated::Seated;
+use crate::spots::all_spots;
 use crate::table::FunnelTable;
 use crate::tally::untouched;
 use atomic_table::Table;
@@ -74,11 +75,15 @@ fn all_passes(
     let mut all = Vec::new(alloc);
     for number in 1..shape.passes() {
         let tally = untouched(alloc, shape, allowances[number as usize])?;
-        let caller = deal(words, &mut seat, number);
+        let caller = deal(words, &mut seat, shape, number);
         all.push(Pass { caller, tally })?;
     }
     let tally = untouched(alloc, shape, allowances[0])?;
-    let caller = Seated { seat, number: 0 };
+    let caller = Seated {
+        seat,
+        number: 0,
+        spots: all_spots(shape, 0),
+    };
     all.insert(0, Pass { caller, tally })?;
     Ok(all)
 }

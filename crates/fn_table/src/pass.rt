@@ -1,9 +1,10 @@
 //! The callers of a table.
 
-ghost use Rattle.std.specs.Prelude.{◌≡◌, ◌<◌};
+ghost use Rattle.std.specs.Prelude.{◌≡◌, ◌≢◌, ◌<◌};
 
 use crate::rule::Place;
 use crate::seated::Seated;
+use crate::spots::Spot;
 use crate::table::FunnelTable;
 use crate::tally::Tally;
 use fn_layout::Kind;
@@ -28,9 +29,12 @@ impl Model for Pass {
 }
 
 impl Pass {
+    ghost use Rattle.fn_model.specs.declared.Kind.TheVariants.{Read};
+    ghost use Rattle.fn_layout.specs.Tree.{IsLevel};
     ghost use Rattle.fn_layout.specs.Words.{IsSlot};
     ghost use Rattle.fn_core.specs.Calls.{IsLegal, left_of};
     ghost use Rattle.fn_table.specs.Seen.{IsOf, own_of};
+    ghost use Rattle.fn_table.specs.Spots.{spot_of};
 
     /// The pass's number at its table.
     pub fn number(&self) -> u32
@@ -48,6 +52,16 @@ impl Pass {
         self.tally.left
     }
 
+    /// Where the pass stands at its aggregator of this kind and level.
+    #[inline(always)]
+    pub fn spot(&self, kind: Kind, level: u32) -> Spot
+        requires funnelled { kind ≢ Read }
+        requires level { IsLevel self.now.seen.start.shape level }
+        ensures { result ≡ spot_of self.now.seen.start.shape self.now.number kind level }
+    {
+        self.caller.spot(kind, level)
+    }
+
     /// The end of the batch that was published last in the pass's row of this number among those of the kind and level, or 0.
     pub fn row_end(&self, table: &FunnelTable, kind: Kind, level: u32, row: u32) -> u64
         requires together { IsOf table.now self.now }
@@ -55,7 +69,8 @@ impl Pass {
         requires row { row < table.now.start.shape.rows }
         ensures { result ≡ (own_of self.now).ends kind level row }
     {
-        self.tally.row_end(table.shape, kind, level, row)
+        let _ = table;
+        self.tally.row_end(self.caller.spot(kind, level).end + row)
     }
 }
 

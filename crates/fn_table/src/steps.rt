@@ -7,11 +7,10 @@ ghost use Rattle.fn_table.specs.Kept.{KeepsTally};
 ghost use Rattle.fn_table.specs.Seats.{IsStep};
 
 use crate::pass::Pass;
-use crate::seated;
-use crate::seated::Seated;
+use crate::seated::{Seated, add_as, exchange_as, load_as, store_as};
 use crate::table::FunnelTable;
-use crate::words::word_of;
 use fn_core::Move;
+use std::marker::Brand;
 
 // The word of the pass's step.
 #[inline(always)]
@@ -21,7 +20,8 @@ fn place_of(table: &FunnelTable, caller: &Seated, step: Move) -> usize
     ensures exact { result ≡ place caller.now step }
     ensures inside { result < table.now.table.words }
 {
-    word_of(table.shape, caller.number, step) as usize
+    let _number = caller.number;
+    caller.word_of(table.shape, step) as usize
 }
 
 /// A load, by which the pass takes this step.
@@ -33,7 +33,7 @@ pub fn load(table: &FunnelTable, caller: &mut Seated, step: Move) -> u64
     ensures { Stepped caller.old step result caller.new }
 {
     let word = place_of(table, caller, step);
-    seated::load(&table.table.shared, caller, word, step)
+    load_as::<Brand>(&table.table.shared, caller, word, step)
 }
 
 /// An addition, by which the pass takes this step.
@@ -45,7 +45,7 @@ pub fn add(table: &FunnelTable, caller: &mut Seated, amount: u64, step: Move) ->
     ensures { Stepped caller.old step result caller.new }
 {
     let word = place_of(table, caller, step);
-    seated::add(&table.table.shared, caller, word, amount, step)
+    add_as::<Brand>(&table.table.shared, caller, word, amount, step)
 }
 
 /// A store, by which the pass takes this step.
@@ -57,7 +57,7 @@ pub fn store(table: &FunnelTable, caller: &mut Seated, new: u64, step: Move)
     ensures { Stored caller.old step caller.new }
 {
     let word = place_of(table, caller, step);
-    seated::store(&table.table.shared, caller, word, new, step);
+    store_as::<Brand>(&table.table.shared, caller, word, new, step);
 }
 
 /// A compare-exchange, by which the pass takes this step.
@@ -69,7 +69,7 @@ pub fn exchange(table: &FunnelTable, caller: &mut Seated, old: u64, new: u64, st
     ensures { Stepped caller.old step result caller.new }
 {
     let word = place_of(table, caller, step);
-    seated::exchange(&table.table.shared, caller, word, old, new, step)
+    exchange_as::<Brand>(&table.table.shared, caller, word, old, new, step)
 }
 
 /// A load that leaves what the pass keeps of itself.

@@ -1,9 +1,8 @@
 // What a pass keeps of itself in plain fields.
 ghost use Rattle.std.specs.Prelude.{◌≡◌, ◌*◌, ◌<◌, true, false, length, slice_index, slice_set, replicate, IfOk};
-ghost use Rattle.fn_layout.specs.Words.{IsSlot, row_number};
 
 use fn_core::NoMemory;
-use fn_layout::{Kind, Shape};
+use fn_layout::Shape;
 use std::alloc::Global;
 
 /// What is left of the pass's allowance, whether it has a call on its way through aggregators, the number among its rows of a kind and level of the row that it pointed to last, and the ends of its own rows, numbered as those of pass 0.
@@ -30,27 +29,22 @@ pub fn untouched(alloc: Global, shape: Shape, left: u64) -> Result<Tally, NoMemo
 }
 
 impl Tally {
-    /// The end of the pass's row with this number among those of the kind and level.
-    pub fn row_end(&self, shape: Shape, kind: Kind, level: u32, row: u32) -> u64
-        requires slot { IsSlot shape 0 kind level }
-        requires row { row < shape.rows }
-        requires rows { length self.now.ends.items ≡ 2 * shape.levels * shape.rows }
-        ensures { result ≡ slice_index self.now.ends.items (row_number shape 0 kind level row) }
+    /// The end of one of the pass's rows.
+    pub fn row_end(&self, place: u32) -> u64
+        requires { place < length self.now.ends.items }
+        ensures { result ≡ slice_index self.now.ends.items place }
     {
-        self.ends[shape.row_of(0, kind, level, row) as usize]
+        self.ends[place as usize]
     }
 
-    /// Keeps the end of the row that the pass points to.
-    pub fn publish(&mut self, shape: Shape, kind: Kind, level: u32, end: u64)
-        requires slot { IsSlot shape 0 kind level }
-        requires row { self.old.pointed < shape.rows }
-        requires rows { length self.old.ends.items ≡ 2 * shape.levels * shape.rows }
+    /// Keeps the end of one of the pass's rows.
+    pub fn publish(&mut self, place: u32, end: u64)
+        requires { place < length self.old.ends.items }
         ensures left { self.new.left ≡ self.old.left }
         ensures calling { self.new.calling ≡ self.old.calling }
         ensures pointed { self.new.pointed ≡ self.old.pointed }
-        ensures ends { self.new.ends.items ≡ slice_set self.old.ends.items (row_number shape 0 kind level self.old.pointed) end }
+        ensures ends { self.new.ends.items ≡ slice_set self.old.ends.items place end }
     {
-        let place = shape.row_of(0, kind, level, self.pointed);
         self.ends[place as usize] = end;
     }
 

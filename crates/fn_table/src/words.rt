@@ -1,77 +1,78 @@
-// The number of the word that each step is on.
-ghost use Rattle.std.specs.Prelude.{◌≡◌, ◌<◌};
-ghost use Rattle.fn_layout.specs.Tree.{aggregator};
-ghost use Rattle.fn_layout.specs.Words.{IsSlot, IsNamed, Value, Last, Done, row_name, number, words};
+// The number of the word that each step of a pass is on.
+ghost use Rattle.std.specs.Prelude.{◌≡◌, ◌≢◌};
+ghost use Rattle.fn_model.specs.declared.Kind.TheVariants.{Read};
+ghost use Rattle.fn_layout.specs.Kinds.{field_number};
+ghost use Rattle.fn_layout.specs.Tree.{IsLevel};
+ghost use Rattle.fn_layout.specs.Words.{IsNamed, row_name, number};
 ghost use Rattle.fn_core.specs.Words.{name_of};
+ghost use Rattle.fn_table.specs.Spots.{spot_of};
 
+use crate::seated::Seated;
+use crate::spots::Spot;
 use fn_core::Move;
 use fn_layout::{Field, Kind, Shape};
 
-// The value of the pass's aggregator of this kind and level.
+// The place of a field among the words of its row.
 #[inline(always)]
-fn value_word(shape: Shape, pass: u32, kind: Kind, level: u32) -> u32
-    requires { IsSlot shape pass kind level }
-    ensures exact { result ≡ number shape (Value kind level (aggregator shape pass level)) }
-    ensures in_range { result < words shape }
+fn place_in_row(field: Field) -> u32
+    ensures { result ≡ field_number field }
 {
-    shape.value_word(kind, level, shape.aggregator_of(pass, level))
+    match field {
+        Field::Lo => 0,
+        Field::Base => 1,
+        Field::Prev => 2,
+    }
 }
 
-// The word that names the row pointed to last, of the pass's aggregator of this kind and level.
-#[inline(always)]
-fn last_word(shape: Shape, pass: u32, kind: Kind, level: u32) -> u32
-    requires { IsSlot shape pass kind level }
-    ensures exact { result ≡ number shape (Last kind level (aggregator shape pass level)) }
-    ensures in_range { result < words shape }
-{
-    shape.last_word(kind, level, shape.aggregator_of(pass, level))
-}
+impl Seated {
+    /// Where the pass stands at its aggregator of this kind and level.
+    #[inline(always)]
+    pub fn spot(&self, kind: Kind, level: u32) -> Spot
+        requires funnelled { kind ≢ Read }
+        requires level { IsLevel self.now.seen.start.shape level }
+        ensures { result ≡ spot_of self.now.seen.start.shape self.now.number kind level }
+    {
+        let spots = match kind {
+            Kind::Sub => &self.spots.subtracting,
+            _ => &self.spots.adding,
+        };
+        spots[(level - 1) as usize]
+    }
 
-// The word `done` of the pass's aggregator of this kind and level.
-#[inline(always)]
-fn done_word(shape: Shape, pass: u32, kind: Kind, level: u32) -> u32
-    requires { IsSlot shape pass kind level }
-    ensures exact { result ≡ number shape (Done kind level (aggregator shape pass level)) }
-    ensures in_range { result < words shape }
-{
-    shape.done_word(kind, level, shape.aggregator_of(pass, level))
-}
+    // The word of a row.
+    #[inline(always)]
+    fn row_word(&self, row: u32, field: Field) -> u32
+        requires { IsNamed self.now.seen.start.shape (row_name self.now.seen.start.shape row field) }
+        ensures { result ≡ number self.now.seen.start.shape (row_name self.now.seen.start.shape row field) }
+    {
+        self.spots.rows + (3 * row + place_in_row(field))
+    }
 
-// The word of a row.
-#[inline(always)]
-fn row_word(shape: Shape, row: u32, field: Field) -> u32
-    requires { IsNamed shape (row_name shape row field) }
-    ensures exact { result ≡ number shape (row_name shape row field) }
-    ensures in_range { result < words shape }
-{
-    shape.row_word(row, field)
-}
-
-/// The number of the word that the pass's step is on.
-#[inline(always)]
-pub fn word_of(shape: Shape, pass: u32, step: Move) -> u32
-    requires named { IsNamed shape (name_of shape pass step) }
-    requires pass_in_range { pass < shape.passes }
-    ensures exact { result ≡ number shape (name_of shape pass step) }
-    ensures in_range { result < words shape }
-{
-    match step {
-        Move::Scan { kind, level, other } => shape.announce_word(other, kind, level),
-        Move::See { kind, level } => done_word(shape, pass, kind, level),
-        Move::Announce { kind, level } => shape.announce_word(pass, kind, level),
-        Move::Arrive { kind, level, .. } => value_word(shape, pass, kind, level),
-        Move::Look { kind, level } => done_word(shape, pass, kind, level),
-        Move::Close { kind, level } => value_word(shape, pass, kind, level),
-        Move::Head { kind, level } => last_word(shape, pass, kind, level),
-        Move::Fill { row, field } => row_word(shape, row, field),
-        Move::Point { kind, level, .. } => last_word(shape, pass, kind, level),
-        Move::Publish { kind, level } => done_word(shape, pass, kind, level),
-        Move::Peek { row, field } => row_word(shape, row, field),
-        Move::Leave { kind, level } => shape.announce_word(pass, kind, level),
-        Move::Apply { .. }
-        | Move::Load { .. }
-        | Move::Exchange { .. }
-        | Move::Direct { .. }
-        | Move::Glance => shape.main_word(),
+    /// The number of the word that the pass's step is on.
+    #[inline(always)]
+    pub fn word_of(&self, shape: Shape, step: Move) -> u32
+        requires shape { shape ≡ self.now.seen.start.shape }
+        requires named { IsNamed self.now.seen.start.shape (name_of self.now.seen.start.shape self.now.number step) }
+        ensures { result ≡ number self.now.seen.start.shape (name_of self.now.seen.start.shape self.now.number step) }
+    {
+        match step {
+            Move::Scan { kind, level, other } => shape.announce_word(other, kind, level),
+            Move::See { kind, level } => self.spot(kind, level).done,
+            Move::Announce { kind, level } => self.spot(kind, level).announcement,
+            Move::Arrive { kind, level, .. } => self.spot(kind, level).value,
+            Move::Look { kind, level } => self.spot(kind, level).done,
+            Move::Close { kind, level } => self.spot(kind, level).value,
+            Move::Head { kind, level } => self.spot(kind, level).last,
+            Move::Fill { row, field } => self.row_word(row, field),
+            Move::Point { kind, level, .. } => self.spot(kind, level).last,
+            Move::Publish { kind, level } => self.spot(kind, level).done,
+            Move::Peek { row, field } => self.row_word(row, field),
+            Move::Leave { kind, level } => self.spot(kind, level).announcement,
+            Move::Apply { .. }
+            | Move::Load { .. }
+            | Move::Exchange { .. }
+            | Move::Direct { .. }
+            | Move::Glance => shape.main_word(),
+        }
     }
 }

@@ -5,6 +5,7 @@ use Rattle.atomic_table.specs.Table.{Me}
 use Rattle.fn_table.specs.Seats.{Known, IsDealer, shown}
 use Rattle.fn_table.specs.Seen.{TableView, fresh}
 use Rattle.fn_table.proofs.Opens.{one_more}
+use Rattle.fn_table.specs.Spots.{spots_of}
 use Rattle.fn_table.proofs.Deals.{dealer_seat}
 use Rattle.fn_table.proofs.Published.{keeps_at_open}
 use Rattle.fn_table.proofs.opening.all_passes.Goals as goal
@@ -30,7 +31,7 @@ invariant_of-caller c =
     let same : c.args.shape.passes ≡ start.shape.passes = ap (λ (s : Shape). s.passes) c.requires.shape in
     let last : start.shape.passes ≤ c.loop-number.number = omega (arith, c.loop-number-test.false, same) in
     let some : 0 < start.shape.passes = omega (arith, start.shape.passes_in_range) in
-    (dealer_seat c.loop-number.seat.table_id start c.loop-number.number (start.shape.passes - 1) _ last some d.opens d.knows).1
+    (dealer_seat c.loop-number.seat.table_id start c.loop-number.number (start.shape.passes - 1) _ _ last some d.opens d.knows (c.all_spots.ensures ∙ ap (λ (s : Shape). spots_of s 0) c.requires.shape)).1
 
 pub invariant_of-push : goal.invariant_of-push
 invariant_of-push c =
@@ -48,6 +49,6 @@ invariant_of-insert c =
     let same : c.args.shape.passes ≡ start.shape.passes = ap (λ (s : Shape). s.passes) c.requires.shape in
     let last : start.shape.passes ≤ c.loop-number.number = omega (arith, c.loop-number-test.false, same) in
     let some : 0 < start.shape.passes = omega (arith, start.shape.passes_in_range) in
-    let mine = (dealer_seat c.loop-number.seat.table_id start c.loop-number.number (start.shape.passes - 1) _ last some d.opens d.knows).0 in
+    let mine = (dealer_seat c.loop-number.seat.table_id start c.loop-number.number (start.shape.passes - 1) _ _ last some d.opens d.knows (c.all_spots.ensures ∙ ap (λ (s : Shape). spots_of s 0) c.requires.shape)).0 in
     let pass : shown c.loop-number.seat.table_id 0 c.loop-number.seat.me.0 ≡ fresh t 0 = λ i. shown (d.table i) 0 (ap (λ (me : Me (Unit {0}) Known). me.0) mine i) in
     keeps_at_open _ t 0 c.args.shape c.args.allowances.now c.in_ok-tally-2.tally pass c.requires.shape c.requires.allowances c.in_ok-tally-2.ensures.fields c.in_ok-tally-2.ensures.ends

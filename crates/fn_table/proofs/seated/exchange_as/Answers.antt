@@ -11,4 +11,4 @@ pub returns : goal.returns
 returns g c = step_tells _ _ _ _ _ _ _ _ c.pass.view_is c.pass.invariant.0 c.pass.invariant.2 c.compare_exchange.ensures.0 c.compare_exchange.ensures.2.0
 
 pub invariant_of-pass : goal.invariant_of-pass
-invariant_of-pass g c = seat_still c.pass.inside.seat.table_id _ _ _ g.T.Taken.step _ c.pass.invariant c.compare_exchange.ensures.2.0 c.compare_exchange.ensures.2.1
+invariant_of-pass g c = seat_still c.pass.inside.seat.table_id _ _ _ _ g.T.Taken.step _ c.pass.invariant c.compare_exchange.ensures.2.0 c.compare_exchange.ensures.2.1
