@@ -1,33 +1,34 @@
 -- What each kind of step of a call tells, and how far the call has come then.
-use Rattle.std.proofs.Common.{◌≡◌, ◌≢◌, inl, inr, ℕ, ◌-◌, ◌<◌, ◌≤◌, Bool, true, false, None, length, set, get_or, refl, sym, ap, ◌∙◌, arith}
+use Rattle.std.proofs.Common.{◌≡◌, ◌≢◌, ℕ, ◌<◌, ◌≤◌, Bool, true, false, Option, None, refl, sym, ap, subst, ◌∙◌, arith}
 use Rattle.std.specs.Prelude.{◌==◌, ◌&&◌, if◌then◌else◌, nat_lt}
-use Rattle.std.proofs.lemmas.Bool.{cases_eq, eq-eqb, ne_eqb, lt-ltb, le-ltb, false≢true}
-use Rattle.std.proofs.lemmas.List.{get_or-set_same, get_or-set_other, length-set, set-get_or}
+use Rattle.std.proofs.lemmas.Bool.{eq-eqb, ne_eqb, lt-ltb, le-ltb, false≢true}
 use Rattle.fn_model.specs.declared.Kind.{Kind}
 use Rattle.fn_rows.specs.declared.Stage.{Stage}
 use Rattle.fn_rows.specs.declared.Stage.TheVariants.{Out, Saw, Told, Waiting, Lead, Late, Shut, Based, Headed, FilledLo, FilledBase, Filled, Pointed, At, Over, Hit, Got}
 use Rattle.fn_rows.specs.Machine.{looked}
-use Rattle.fn_layout.specs.Tree.{IsLevel}
 use Rattle.fn_core.specs.declared.Start.{Start}
 use Rattle.fn_core.specs.declared.Move.{Move}
 use Rattle.fn_core.specs.declared.Move.TheVariants.{Look}
 use Rattle.fn_core.specs.declared.Position.{Position}
 use Rattle.fn_core.specs.declared.Position.TheVariants.{Climbing}
 use Rattle.fn_core.specs.declared.answer.Answer.TheVariants as answers
+use Rattle.fn_core.specs.declared.answer.Why.{Why}
 use Rattle.fn_core.specs.declared.answer.Why.TheVariants.{Behind}
+use Rattle.fn_core.specs.declared.answer.CoreStep.{CoreStep}
 use Rattle.fn_core.specs.declared.answer.CoreStep.TheVariants as told
-use Rattle.fn_core.specs.State.{State, Caller}
+use Rattle.fn_core.specs.State.{Caller}
 use Rattle.fn_core.specs.Words.{Own}
 use Rattle.fn_core.specs.After.{in_stage, put_level, looked_stage}
 use Rattle.fn_core.specs.Positions.{is_out}
-use Rattle.fn_core.specs.Calls.{state_in, look_told, step_answer}
+use Rattle.fn_core.specs.Fields.{answer_of}
+use Rattle.fn_core.specs.Calls.{state_in, look_told, told_by, stage_for}
 use Rattle.fn_core.proofs.Public.{same_kind-refl}
 use Rattle.fn_table.specs.Seen.{PassView, Stepped, own_of, with_log}
 use Rattle.fn_climb.specs.declared.course.Course.{Course}
-use Rattle.fn_climb.specs.Next.{next_step, IsNext}
-use Rattle.fn_climb.specs.Course.{held_at, goes_on, IsCourseOf, Holds, Moved, at_stage, pending_of}
-use Rattle.fn_climb.specs.Steps.{HasSameCall, Went}
-use Rattle.fn_climb.proofs.Underway.{placed, climbing_at, next_at_stage, stage_now}
+use Rattle.fn_climb.specs.Next.{IsNext}
+use Rattle.fn_climb.specs.Course.{position_by, goes_on, IsCourseOf, Holds, Moved, at_stage, pending_of}
+use Rattle.fn_climb.specs.Steps.{HasSameCall, Went, Advanced}
+use Rattle.fn_climb.proofs.Underway.{climbing_at, next_at_stage, stage_now}
 use Rattle.fn_climb.proofs.Onward.{own_before, tells, went, holds_then, plain}
 
 -- a function changed for a kind and level, there and at another level
@@ -37,20 +38,22 @@ level_same f k l g = ap (λ (b : Bool). if b && (l == l) then g else f k l) (sam
 pub level_other : (f : Kind → ℕ → Stage) (k : Kind) (l : ℕ) (g : Stage) (j : ℕ) → j ≢ l → put_level f k l g k j ≡ f k j
 level_other f k l g j other = ap (λ (b : Bool). if b && (j == l) then g else f k j) (same_kind-refl k) ∙ ap (λ (b : Bool). if b then g else f k j) (ne_eqb j l other)
 
--- a call that has gone on to a stage at a level
-pub course_put : (start : Start) (o o' : Own) (c : Course) (level : ℕ) (g : Stage) → IsLevel start.shape level → length c.stages ≡ 3 → ((l : ℕ) → IsLevel start.shape l → held_at c l ≡ o.stages c.kind l)
-    → o'.caller.position ≡ Climbing c.kind level → o'.stages ≡ put_level o.stages c.kind level g → IsCourseOf start o' (at_stage c level g)
-course_put start o o' c level g inside three held position stages = record {
+-- a call that has gone on to a stage at its level
+pub course_on : {start : Start} {o o' : Own} {c : Course} {g : Stage} → IsCourseOf start o c → o'.caller.position ≡ Climbing c.kind c.level → o'.stages ≡ put_level o.stages c.kind c.level g → IsCourseOf start o' (at_stage c g)
+course_on {o = o} {c = c} {g = g} is position stages = record {
   position = position;
-  three = length-set c.stages (level - 1) g ∙ three;
-  stages = λ l there.
-      (elim (cases_eq l level) [
-        | inl same ↦
-            ap (λ (x : ℕ). get_or (set c.stages (level - 1) g) (x - 1) Out) same ∙ get_or-set_same c.stages (level - 1) g Out (omega (arith, three, inside.0, inside.1, start.shape.levels_in_range))
-            ∙ sym (ap (put_level o.stages c.kind level g c.kind) same ∙ level_same o.stages c.kind level g)
-        | inr other ↦
-            get_or-set_other c.stages (level - 1) (l - 1) g Out (λ e. other (omega (arith, e, inside.0, there.0))) ∙ held l there ∙ sym (level_other o.stages c.kind level g l other)
-      ]) ∙ sym (ap (λ (f : Kind → ℕ → Stage). f c.kind l) stages);
+  here = sym (ap (λ (f : Kind → ℕ → Stage). f c.kind c.level) stages ∙ level_same o.stages c.kind c.level g);
+  two = is.two;
+  under = λ l low less. ap (λ (f : Kind → ℕ → Stage). f c.kind l) stages ∙ level_other o.stages c.kind c.level g l (λ e. omega (arith, e, less)) ∙ is.under l low less;
+}
+
+-- .. and one that has loaded a word, or has lost it
+pub course_with : {start : Start} {o o' : Own} {c : Course} (word : Option ℕ) → IsCourseOf start o c → o'.caller.position ≡ position_by c.kind c.level word → o'.stages ≡ o.stages → IsCourseOf start o' (record c { word = word })
+course_with {c = c} word is position stages = record {
+  position = position;
+  here = is.here ∙ ap (λ (f : Kind → ℕ → Stage). f c.kind c.level) (sym stages);
+  two = is.two;
+  under = λ l low less. ap (λ (f : Kind → ℕ → Stage). f c.kind l) stages ∙ is.under l low less;
 }
 
 -- a stage at which a call goes on, where it is none of the others
@@ -73,85 +76,8 @@ goes_left (At a b) there waiting shut got = refl
 goes_left (Over a b) there waiting shut got = refl
 goes_left (Hit a b x) there waiting shut got = refl
 
-module _ (p : PassView) (c : Course) (h : Holds p c) where
-  abbrev start : Start
-  start = p.seen.start
-
-  -- a pass of which only the position changes has the same call
-  pub same_call : (q : PassView) (position : Position) → (own_of q).caller ≡ record (own_of p).caller { position = position } → HasSameCall p q
-  same_call q position is = record { made = ap (λ (x : Caller). x.made) is; last = ap (λ (x : Caller). x.last) is; left = ap (λ (x : Caller). x.left) is }
-
-  module _ (step : Move) (n : ℕ) (q : PassView) (t : Stepped p step n q) (nx : IsNext (pending_of p c) step) where
-    abbrev before : State
-    before = state_in (with_log p t.before)
-
-    -- a step that leaves the call going, and leads to a stage
-    pub goes : told.Going ≡ step_answer start before p.number → (level : ℕ) (g : Stage) → IsLevel start.shape level → (own_of q).caller ≡ record (own_of p).caller { position = Climbing c.kind level } → (own_of q).stages ≡ put_level (own_of p).stages c.kind level g
-        → Went (pending_of p c) told.Going q × (Holds q (at_stage c level g) × (c.rows ≡ c.rows))
-    goes so level g inside caller stages =
-        let w = went p c h step n q t nx told.Going so (same_call q (Climbing c.kind level) caller) in (
-          w,
-          (
-            holds_then p c h step n q t nx (at_stage c level g) refl refl
-                (course_put start (own_of p) (own_of q) c level g inside h.course.three h.course.stages (ap (λ (x : Caller). x.position) caller) stages) w.follows.0,
-            refl,
-          ),
-        )
-
-    -- .. and one that doesn't
-    pub stays : (why : _) → told.NotYet why ≡ step_answer start before p.number → (level : ℕ) (g : Stage) → IsLevel start.shape level → (own_of q).caller ≡ record (own_of p).caller { position = Climbing c.kind level } → (own_of q).stages ≡ put_level (own_of p).stages c.kind level g
-        → Went (pending_of p c) (told.NotYet why) q × (Holds q (at_stage c level g) × (c.rows ≡ c.rows))
-    stays why so level g inside caller stages =
-        let w = went p c h step n q t nx (told.NotYet why) so (same_call q (Climbing c.kind level) caller) in (
-          w,
-          (
-            holds_then p c h step n q t nx (at_stage c level g) refl refl
-                (course_put start (own_of p) (own_of q) c level g inside h.course.three h.course.stages (ap (λ (x : Caller). x.position) caller) stages) w.follows,
-            refl,
-          ),
-        )
-
-  module _ (free : c.word ≡ None) where
-    abbrev here : Caller
-    here = (own_of p).caller
-
-    -- a pass that stays where it is
-    pub at_rest : here ≡ record here { position = Climbing c.kind c.level }
-    at_rest = ap (λ (x : Position). let r : Caller = record here { position = x } in r) (climbing_at p c h free)
-
-    -- a step to another stage at the call's level
-    pub moved : (g : Stage) (q : PassView) → Moved p c g q → Went (pending_of p c) told.Going q × (Holds q (at_stage c c.level g) × (c.rows ≡ c.rows))
-    moved g q m =
-        goes m.step m.number q m.stepped m.next (sym (tells p c h m.step m.number q m.stepped m.next ∙ m.going _ _)) c.level g (placed p c h).1 (m.caller ∙ at_rest) m.stages
-
-    module _ (at : ℕ) (is : held_at c c.level ≡ Waiting at) (n : ℕ) (q : PassView) (t : Stepped p (Look c.kind c.level) n q) where
-      next : next_step p ≡ Look c.kind c.level
-      next = next_at_stage p c h free (Waiting at) is
-
-      sees : step_answer start (state_in (with_log p t.before)) p.number ≡ (if nat_lt n at then told.NotYet (Behind n at) else told.Going)
-      sees =
-          tells p c h (Look c.kind c.level) n q t (plain p c (Look c.kind c.level) next)
-          ∙ (λ i. look_told ((ap (λ (o : Own). o.stages c.kind c.level) (own_before p c h (Look c.kind c.level) n q t) ∙ stage_now p c h free (Waiting at) is) i) (answers.Word (sym t.answer i)))
-
-      after : own_of q ≡ in_stage (own_of p) c.kind c.level (looked at n)
-      after = t.own ∙ ap (λ (g : Stage). in_stage (own_of p) c.kind c.level (looked_stage n g)) (stage_now p c h free (Waiting at) is)
-
-      caller : (own_of q).caller ≡ record here { position = Climbing c.kind c.level }
-      caller = ap (λ (o : Own). o.caller) after ∙ at_rest
-
-      stages : (own_of q).stages ≡ put_level (own_of p).stages c.kind c.level (looked at n)
-      stages = ap (λ (o : Own). o.stages) after
-
-      pub looked_behind : n < at → Went (pending_of p c) (told.NotYet (Behind n at)) q × (Holds q (at_stage c c.level (looked at n)) × (c.rows ≡ c.rows))
-      looked_behind less =
-          stays (Look c.kind c.level) n q t (plain p c (Look c.kind c.level) next) (Behind n at) (sym (sees ∙ ap (λ (b : Bool). if b then told.NotYet (Behind n at) else told.Going) (lt-ltb n at less))) c.level (looked at n) (placed p c h).1 caller stages
-
-      pub looked_on : at ≤ n → Went (pending_of p c) told.Going q × (Holds q (at_stage c c.level (looked at n)) × (c.rows ≡ c.rows))
-      looked_on more =
-          goes (Look c.kind c.level) n q t (plain p c (Look c.kind c.level) next) (sym (sees ∙ ap (λ (b : Bool). if b then told.NotYet (Behind n at) else told.Going) (le-ltb n at more))) c.level (looked at n) (placed p c h).1 caller stages
-
 -- what a look shows
-pub waits_still : (at n : ℕ) → n < at → looked at n ≡ Waiting at
+waits_still : (at n : ℕ) → n < at → looked at n ≡ Waiting at
 waits_still at n less = ap (λ (b : Bool). if b then Waiting at else (if at == n then Lead at else Late at)) (lt-ltb n at less)
 
 pub leads_now : (at n : ℕ) → at ≤ n → at ≡ n → looked at n ≡ Lead at
@@ -160,9 +86,65 @@ leads_now at n more same = ap (λ (b : Bool). if b then Waiting at else (if at =
 pub late_now : (at n : ℕ) → at ≤ n → at ≢ n → looked at n ≡ Late at
 late_now at n more other = ap (λ (b : Bool). if b then Waiting at else (if at == n then Lead at else Late at)) (le-ltb n at more) ∙ ap (λ (b : Bool). if b then Lead at else Late at) (ne_eqb at n other)
 
--- a call that goes on to where it stands has forgotten its word, and is the same where it had none
-pub free_again : (c : Course) → at_stage c c.level (held_at c c.level) ≡ record c { word = None }
-free_again c = λ i. record c { word = None; stages = set-get_or c.stages (c.level - 1) Out i }
+module _ {p : PassView} {c : Course} (h : Holds p c) where
+  abbrev start : Start
+  start = p.seen.start
 
-pub stays_put : (c : Course) → c.word ≡ None → at_stage c c.level (held_at c c.level) ≡ c
-stays_put c free = free_again c ∙ (λ i. record c { word = sym free i })
+  -- a pass of which only the position changes has the same call
+  same_call : (q : PassView) (position : Position) → (own_of q).caller ≡ record (own_of p).caller { position = position } → HasSameCall p q
+  same_call q position is = record { made = ap (λ (x : Caller). x.made) is; last = ap (λ (x : Caller). x.last) is; left = ap (λ (x : Caller). x.left) is }
+
+  module _ {step : Move} {n : ℕ} {q : PassView} (t : Stepped p step n q) (nx : IsNext (pending_of p c) step) where
+    -- what the step tells
+    abbrev pub tells_here : CoreStep
+    tells_here = let before = state_in (with_log p t.before) in told_by start.cap step (stage_for start before p.number step) (answer_of start before p.number step)
+
+    module _ {o : Own} (after : own_of q ≡ o) {position : Position} (caller : o.caller ≡ record (own_of p).caller { position = position }) where
+      pub goes_told : {told : CoreStep} → tells_here ≡ told → Went (pending_of p c) told q
+      goes_told so = went h t nx _ (sym (tells h t nx ∙ so)) (same_call q position (ap (λ (x : Own). x.caller) after ∙ caller))
+
+      -- the call goes on, or waits, and has come so far
+      module _ {c' : Course} (kind : c'.kind ≡ c.kind) (rows : c'.rows ≡ c.rows) (course : IsCourseOf start o c') where
+        course_now : IsCourseOf start (own_of q) c'
+        course_now = subst (λ (x : Own). IsCourseOf start x c') (sym after) course
+
+        pub goes_to : tells_here ≡ told.Going → Advanced (pending_of p c) told.Going q c'
+        goes_to so = let w = goes_told so in (w, (holds_then h t nx c' kind rows course_now w.follows.0, rows))
+
+        pub waits_at : {why : Why} → tells_here ≡ told.NotYet why → Advanced (pending_of p c) (told.NotYet why) q c'
+        waits_at so = let w = goes_told so in (w, (holds_then h t nx c' kind rows course_now w.follows, rows))
+
+  module _ (free : c.word ≡ None) where
+    abbrev here : Caller
+    here = (own_of p).caller
+
+    -- a pass that stays where it is
+    pub at_rest : here ≡ record here { position = Climbing c.kind c.level }
+    at_rest = ap (λ (x : Position). let r : Caller = record here { position = x } in r) (climbing_at h free)
+
+    -- a step to another stage at the call's level
+    pub moved : {g : Stage} {q : PassView} → Moved p c g q → Advanced (pending_of p c) told.Going q (at_stage c g)
+    moved m =
+        let caller = m.caller ∙ at_rest in
+        goes_to m.stepped m.next refl caller refl refl (course_on h.course (ap (λ (x : Caller). x.position) caller) m.stages) (m.going _ _)
+
+    module _ {at : ℕ} (is : c.stage ≡ Waiting at) {n : ℕ} {q : PassView} (t : Stepped p (Look c.kind c.level) n q) where
+      next : IsNext (pending_of p c) (Look c.kind c.level)
+      next = plain p c (next_at_stage h free is)
+
+      sees : tells_here t next ≡ (if nat_lt n at then told.NotYet (Behind n at) else told.Going)
+      sees = (λ i. look_told ((ap (λ (o : Own). o.stages c.kind c.level) (own_before h t) ∙ stage_now h free is) i) (answers.Word (sym t.answer i)))
+
+      after : own_of q ≡ in_stage (own_of p) c.kind c.level (looked at n)
+      after = t.own ∙ ap (λ (g : Stage). in_stage (own_of p) c.kind c.level (looked_stage n g)) (stage_now h free is)
+
+      course : IsCourseOf start (in_stage (own_of p) c.kind c.level (looked at n)) (at_stage c (looked at n))
+      course = course_on h.course (climbing_at h free) refl
+
+      pub looked_behind : n < at → Advanced (pending_of p c) (told.NotYet (Behind n at)) q c
+      looked_behind less =
+          let same : at_stage c (looked at n) ≡ c = λ i. record c { word = sym free i; stage = (waits_still at n less ∙ sym is) i } in
+          waits_at t next after at_rest refl refl (subst (IsCourseOf start (in_stage (own_of p) c.kind c.level (looked at n))) same course) (sees ∙ ap (λ (b : Bool). if b then told.NotYet (Behind n at) else told.Going) (lt-ltb n at less))
+
+      pub looked_on : at ≤ n → Advanced (pending_of p c) told.Going q (at_stage c (looked at n))
+      looked_on more = goes_to t next after at_rest refl refl course (sees ∙ ap (λ (b : Bool). if b then told.NotYet (Behind n at) else told.Going) (le-ltb n at more))

@@ -1,7 +1,6 @@
 -- A pass with an open row at each level arrives at its leaf.
-use Rattle.std.proofs.Common.{◌≡◌, ◌≢◌, inl, inr, ℕ, zero, suc, ◌+◌, ◌-◌, ◌*◌, ◌%◌, ◌<◌, ◌≤◌, List, [], ◌∷◌, Option, None, get_or, refl, sym, ap, subst, ◌∙◌, arith}
+use Rattle.std.proofs.Common.{◌≡◌, inl, inr, ℕ, ◌+◌, ◌-◌, ◌*◌, ◌%◌, ◌<◌, List, [], ◌∷◌, Option, None, get_or, refl, sym, ap, subst, ◌∙◌, arith}
 use Rattle.std.proofs.lemmas.Nat.{div-mul-add, mod-mul-add}
-use Rattle.std.proofs.lemmas.Bool.{cases_eq}
 use Rattle.fn_model.specs.declared.Kind.{Kind}
 use Rattle.fn_rows.specs.Machine.{Lets, IsFree}
 use Rattle.fn_rows.specs.declared.Stage.TheVariants.{Out, Saw, Told, Waiting}
@@ -25,7 +24,7 @@ use Rattle.fn_climb.specs.Course.{Holds}
 use Rattle.fn_table.specs.Later.{IsLater}
 use Rattle.fn_climb.specs.Begin.{IsOpen, AreOpen, Arrived}
 use Rattle.fn_table.proofs.Later.{later_by, later_on}
-use Rattle.fn_climb.proofs.Goes.{level_same, level_other}
+use Rattle.fn_climb.proofs.Goes.{level_same}
 use Rattle.fn_climb.proofs.Scans.{same_put}
 use Rattle.fn_climb.proofs.Every.{open_still}
 
@@ -59,19 +58,6 @@ open_free p kind level n open_row less = (div-mul-add (member p.seen.start.shape
 all_out : (p : PassView) → IsLegal p.seen → IsIdle p.seen p.number → (k : Kind) (l : ℕ) → (own_of p).stages k l ≡ Out
 all_out p legal idle = subst (Fits p.seen.start.shape.levels (own_of p).stages) idle (positions_fit p.seen.start p.seen.log legal.0 legal.1 p.number)
 
--- the stages of a call that waits at its leaf
-leaf_stages : (n l : ℕ) → 1 ≤ l → (l ≡ 1 → get_or (Waiting n ∷ Out ∷ Out ∷ []) (l - 1) Out ≡ Waiting n) × (l ≢ 1 → get_or (Waiting n ∷ Out ∷ Out ∷ []) (l - 1) Out ≡ Out)
-leaf_stages n l low = (
-  (λ one. ap (λ (x : ℕ). get_or (Waiting n ∷ Out ∷ Out ∷ []) x Out) (let e : l - 1 ≡ 0 = omega (arith, one) in e)),
-  (λ more. above (l - 1) (omega (arith, low, more))),
-)
-  where
-    above : (k : ℕ) → 1 ≤ k → get_or (Waiting n ∷ Out ∷ Out ∷ []) k Out ≡ Out
-    above zero some_low = absurd (omega arith)
-    above (suc zero) some_low = refl
-    above (suc (suc zero)) some_low = refl
-    above (suc (suc (suc k))) some_low = refl
-
 module _ (p : PassView) (kind : Kind) (amount : ℕ) (rows : List ℕ) (inside : p.number < p.seen.start.shape.passes) (legal : IsLegal p.seen) (idle : IsIdle p.seen p.number) (change : IsChange kind) (spend : MaySpend (state_in p.seen) p.number amount) (open_rows : AreOpen p kind rows) where
   pub may_see : May p (See kind 1)
   may_see = (
@@ -86,7 +72,7 @@ module _ (p : PassView) (kind : Kind) (amount : ℕ) (rows : List ℕ) (inside :
     ),
   )
 
-  module _ (a : ℕ) (q : PassView) (t : Stepped p (See kind 1) a q) where
+  module _ {a : ℕ} {q : PassView} (t : Stepped p (See kind 1) a q) where
     abbrev saw : Own
     saw = in_position (in_stage (own_of p) kind 1 (Saw a)) (Climbing kind 1)
 
@@ -102,7 +88,7 @@ module _ (p : PassView) (kind : Kind) (amount : ℕ) (rows : List ℕ) (inside :
     pub may_announce : May q (Announce kind 1)
     may_announce = (inside_next q (later_by p (See kind 1) a q t), (ap (λ (o : Own). o.caller.position) saw_is, (a, saw_stage)))
 
-    module _ (b : ℕ) (r : PassView) (u : Stepped q (Announce kind 1) b r) where
+    module _ {b : ℕ} {r : PassView} (u : Stepped q (Announce kind 1) b r) where
       abbrev told : Own
       told = in_stage saw kind 1 (told_stage (saw.stages kind 1))
 
@@ -121,7 +107,7 @@ module _ (p : PassView) (kind : Kind) (amount : ℕ) (rows : List ℕ) (inside :
         ((ap (λ (o : Own). o.caller.position) told_is, (a, told_stage_is, omega (arith, spend.0))), (spend.0, omega (arith, spend.1, ap (λ (o : Own). o.caller.left) told_is))),
       )
 
-      module _ (n : ℕ) (v : PassView) (w : Stepped r (Arrive kind 1 amount) n v) where
+      module _ {n : ℕ} {v : PassView} (w : Stepped r (Arrive kind 1 amount) n v) where
         abbrev waiting : Own
         waiting = with_call (in_stage told kind 1 (Waiting n)) p.number kind amount
 
@@ -134,11 +120,6 @@ module _ (p : PassView) (kind : Kind) (amount : ℕ) (rows : List ℕ) (inside :
         stage_leaf : (own_of v).stages kind 1 ≡ Waiting n
         stage_leaf = ap (λ (o : Own). o.stages kind 1) waiting_is ∙ level_same told.stages kind 1 (Waiting n)
 
-        stage_above : (l : ℕ) → l ≢ 1 → (own_of v).stages kind l ≡ Out
-        stage_above l other =
-            ap (λ (o : Own). o.stages kind l) waiting_is ∙ level_other told.stages kind 1 (Waiting n) l other
-            ∙ level_other saw.stages kind 1 (told_stage (saw.stages kind 1)) l other ∙ level_other (own_of p).stages kind 1 (Saw a) l other ∙ all_out p legal idle kind l
-
         found_same : (own_of v).found ≡ (own_of p).found
         found_same = ap (λ (o : Own). o.found) waiting_is ∙ same_put told.found kind 1 ∙ same_put saw.found kind 1 ∙ same_put (own_of p).found kind 1
 
@@ -146,7 +127,7 @@ module _ (p : PassView) (kind : Kind) (amount : ℕ) (rows : List ℕ) (inside :
         ends_same = ap (λ (o : Own). o.ends) waiting_is ∙ same_put told.ends kind 1 ∙ same_put saw.ends kind 1 ∙ same_put (own_of p).ends kind 1
 
         abbrev course : Course
-        course = record { kind = kind; level = 1; word = None; stages = Waiting n ∷ Out ∷ Out ∷ []; rows = rows }
+        course = record { kind = kind; level = 1; word = None; stage = Waiting n; below = record { at = 0; hi = 0 } ∷ record { at = 0; hi = 0 } ∷ []; rows = rows }
 
         open_then : (level : ℕ) → IsLevel v.seen.start.shape level → (get_or rows (level - 1) 0 < v.seen.start.shape.rows) × IsOpen v.seen.start.shape v.number (own_of v) kind level (get_or rows (level - 1) 0)
         open_then level there =
@@ -161,11 +142,9 @@ module _ (p : PassView) (kind : Kind) (amount : ℕ) (rows : List ℕ) (inside :
           call = (kind, ap has_come stage_leaf);
           course = record {
             position = ap (λ (o : Own). o.caller.position) waiting_is;
-            three = refl;
-            stages = λ l there. elim (cases_eq l 1) [
-              | inl one ↦ (leaf_stages n l there.0).0 one ∙ sym (ap ((own_of v).stages kind) one ∙ stage_leaf)
-              | inr other ↦ (leaf_stages n l there.0).1 other ∙ sym (stage_above l other)
-            ];
+            here = sym stage_leaf;
+            two = refl;
+            under = λ l low less. absurd (omega (arith, low, less));
           };
           chosen = record { rows = λ level there fills. let row = open_then level there in (row.0, open_free v kind level (get_or rows (level - 1) 0) row.1 row.0) };
         }

@@ -127,10 +127,10 @@ pub next_cases : (q : PendingView) (step : Move) → IsNext q step → (next_ste
 next_cases q step is = kept_cases q (next_step q.pass) (own_of q.pass).caller.position step is
 
 -- a step that is no first Fill is the one that the order tells
-pub plain : (p : PassView) (c : Course) (step : Move) → next_step p ≡ step → in_kept_row (pending_of p c) (next_step p) (own_of p).caller.position ≡ in_kept_row (pending_of p c) step (own_of p).caller.position
-plain p c step next = ap (λ (m : Move). in_kept_row (pending_of p c) m (own_of p).caller.position) next
+pub plain : (p : PassView) (c : Course) {step : Move} → next_step p ≡ step → in_kept_row (pending_of p c) (next_step p) (own_of p).caller.position ≡ in_kept_row (pending_of p c) step (own_of p).caller.position
+plain p c next = ap (λ (m : Move). in_kept_row (pending_of p c) m (own_of p).caller.position) next
 
-module _ (p : PassView) (c : Course) (h : Holds p c) (step : Move) (n : ℕ) (q : PassView) (t : Stepped p step n q) where
+module _ {p : PassView} {c : Course} (h : Holds p c) {step : Move} {n : ℕ} {q : PassView} (t : Stepped p step n q) where
   abbrev start : Start
   start = p.seen.start
 

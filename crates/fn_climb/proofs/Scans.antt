@@ -24,6 +24,8 @@ use Rattle.fn_core.specs.Machine.{IsChange, Allowed}
 use Rattle.fn_core.specs.declared.Position.TheVariants.{Resting}
 use Rattle.fn_core.specs.Begin.{up_to, is_other, others, blocks_by, blocker_by, scanned_by}
 use Rattle.fn_core.proofs.Public.{range_end, filter_keeps, filter_skips}
+use Rattle.fn_table.specs.declared.spots.Spot.{Spot}
+use Rattle.fn_table.specs.Spots.{spot_of}
 use Rattle.fn_table.specs.Seen.{TableView, PassView, IsOf, May, Stepped, own_of, event}
 use Rattle.fn_table.proofs.Spares.{level_case}
 use Rattle.fn_climb.specs.Begin.{Taken, Takes, scan_taken, blocked_load, IsStill, RowTried}
@@ -76,7 +78,7 @@ pub of_still : (t : TableView) (p q : PassView) → IsStill p q → IsOf t p →
 of_still t p q still of = of_later t p q still.later of
 
 -- the pass may scan another one of its aggregator
-pub may_scan : (p q : PassView) (kind : Kind) (level x : ℕ) → IsStill p q → p.number < p.seen.start.shape.passes → IsIdle p.seen p.number → IsChange kind → IsLevel p.seen.start.shape level → x < p.seen.start.shape.passes
+may_scan : (p q : PassView) (kind : Kind) (level x : ℕ) → IsStill p q → p.number < p.seen.start.shape.passes → IsIdle p.seen p.number → IsChange kind → IsLevel p.seen.start.shape level → x < p.seen.start.shape.passes
     → is_other p.seen.start.shape level p.number x ≡ true → May q (Scan kind level x)
 may_scan p q kind level x still inside idle change at less other =
     let both = and_parts (aggregator p.seen.start.shape x level == aggregator p.seen.start.shape p.number level) (not (x == p.number)) other in
@@ -127,7 +129,7 @@ module _ (p : PassView) (kind : Kind) (level n : ℕ) where
   is_other_yes : (x : ℕ) → x ≢ p.number → aggregator shape x level ≡ aggregator shape p.number level → is_other shape level p.number x ≡ true
   is_other_yes x another same = and_from (aggregator shape x level == aggregator shape p.number level) (not (x == p.number)) (eq-eqb (aggregator shape x level) (aggregator shape p.number level) same) (ap not (ne_eqb x p.number another))
 
-  pub row_skip : (i : ℕ) (q : PassView) → RowSoFar i q → i < shape.passes → is_other shape level p.number i ≡ false → RowSoFar (i + 1) q
+  row_skip : (i : ℕ) (q : PassView) → RowSoFar i q → i < shape.passes → is_other shape level p.number i ≡ false → RowSoFar (i + 1) q
   row_skip i q so less none = record {
     ts = so.ts;
     takes = so.takes;
@@ -169,35 +171,34 @@ module _ (p : PassView) (kind : Kind) (level n : ℕ) where
     pub less : m < members shape level home
     pub is : x ≡ pass_of shape level home m
 
-  pub is_member : (s : Shape) (number index m x : ℕ) → s ≡ shape → number ≡ p.number → index ≡ aggregator s number level → m < members s level index → x ≡ pass_of s level index m → IsMember m x
-  is_member s number index m x a b c less is =
-      let there : index ≡ home = c ∙ (λ i. aggregator (a i) (b i) level) in record {
-        less = subst (λ (z : Shape × ℕ). m < members z.0 level z.1) (λ i. (a i, there i)) less;
-        is = is ∙ (λ i. pass_of (a i) level (there i) m);
-      }
+  pub is_member : {s : Shape} {spot : Spot} {m x : ℕ} → s ≡ shape → spot ≡ spot_of shape p.number kind level → m < spot.members → x ≡ pass_of s level spot.index m → IsMember m x
+  is_member {m = m} same there less is = record {
+    less = subst (λ (k : ℕ). m < k) (ap (λ (z : Spot). z.members) there) less;
+    is = is ∙ (λ i. pass_of (same i) level ((ap (λ (z : Spot). z.index) there) i) m);
+  }
 
-  module _ (m x : ℕ) (at : IsMember m x) where
-    pub member_inside : x < shape.passes
+  module _ {m x : ℕ} (at : IsMember m x) where
+    member_inside : x < shape.passes
     member_inside = omega (arith, (layout.numbers_are_members shape level home m (aggregator_below shape p.number level) at.less).0, at.is)
 
-    pub member_other : x ≢ p.number → is_other shape level p.number x ≡ true
+    member_other : x ≢ p.number → is_other shape level p.number x ≡ true
     member_other another = is_other_yes x another (ap (λ (k : ℕ). aggregator shape k level) at.is ∙ (layout.numbers_are_members shape level home m (aggregator_below shape p.number level) at.less).1)
 
     -- the passes before it are scanned with the members before it
-    pub before_member : (q : PassView) → MembersSoFar m q → RowSoFar x q
+    before_member : (q : PassView) → MembersSoFar m q → RowSoFar x q
     before_member q so =
         subst (λ (k : ℕ). RowSoFar k q) (sym at.is)
         (row_past (passed shape level home m) (pass_of shape level home m) q (before_next shape level home (aggregator_below shape p.number level) m at.less) so)
 
-    pub past_member : (q : PassView) → RowSoFar (x + 1) q → MembersSoFar (m + 1) q
+    past_member : (q : PassView) → RowSoFar (x + 1) q → MembersSoFar (m + 1) q
     past_member q so = subst (λ (k : ℕ). RowSoFar k q) (ap (λ (k : ℕ). k + 1) at.is ∙ passed_more shape level home m) so
 
     -- the pass itself is no other one
-    pub member_skip : (q : PassView) → MembersSoFar m q → x ≡ p.number → MembersSoFar (m + 1) q
-    member_skip q so same = past_member q (row_skip x q (before_member q so) member_inside (itself_is_no_other x same))
+    pub member_skip : {q : PassView} → MembersSoFar m q → x ≡ p.number → MembersSoFar (m + 1) q
+    member_skip {q} so same = past_member q (row_skip x q (before_member q so) member_inside (itself_is_no_other x same))
 
   -- .. and all passes with all members
-  pub past_all : (m : ℕ) (q : PassView) → MembersSoFar m q → m ≡ members shape level home → RowSoFar shape.passes q
+  past_all : (m : ℕ) (q : PassView) → MembersSoFar m q → m ≡ members shape level home → RowSoFar shape.passes q
   past_all m q so last = row_past (passed shape level home m) shape.passes q (behind_last shape level home (aggregator_below shape p.number level) m last) so
 
   -- what is scanned for a row that was filled before
@@ -222,7 +223,7 @@ module _ (p : PassView) (kind : Kind) (level n : ℕ) where
     same_place : aggregator shape i level ≡ aggregator shape p.number level
     same_place = eqb-true (aggregator shape i level) (aggregator shape p.number level) (and_parts (aggregator shape i level == aggregator shape p.number level) (not (i == p.number)) other).0
 
-    pub row_more : Lets w end → not (lets (Some w) end) ≡ false → RowSoFar (i + 1) r
+    row_more : Lets w end → not (lets (Some w) end) ≡ false → RowSoFar (i + 1) r
     row_more holds lets_it = record {
       ts = so.ts ++ out_scan w i;
       takes = takes_more p q r so.ts (Scan kind level i) w so.takes t;
@@ -241,7 +242,7 @@ module _ (p : PassView) (kind : Kind) (level n : ℕ) where
       ];
     }
 
-    pub row_stop : end ≢ 0 → not (lets (Some w) end) ≡ true → RowTried p kind level n (Some (record { level = level; row = n; pass = i; announced = w - 1 })) r
+    row_stop : end ≢ 0 → not (lets (Some w) end) ≡ true → RowTried p kind level n (Some (record { level = level; row = n; pass = i; announced = w - 1 })) r
     row_stop filled blocks =
         let done = along_stop out_scan blocks_row i (left_from i) (left_from (i + 1)) (others shape level p.number) so.ts so.along (filter_keeps (is_other shape level p.number) i shape.passes less other) w blocks in record {
           words = done.0;
@@ -252,7 +253,7 @@ module _ (p : PassView) (kind : Kind) (level n : ℕ) where
           free = λ none. absurd (cc (none));
         }
 
-  pub row_through : (i : ℕ) (q : PassView) → RowSoFar i q → shape.passes ≤ i → end ≢ 0 → RowTried p kind level n None q
+  row_through : (i : ℕ) (q : PassView) → RowSoFar i q → shape.passes ≤ i → end ≢ 0 → RowTried p kind level n None q
   row_through i q so last filled =
       let done = along_through out_scan blocks_row i (left_from i) (others shape level p.number) so.ts so.along (ap (filter (is_other shape level p.number)) (range_end i shape.passes last)) in record {
         words = so.along.w;
@@ -264,6 +265,21 @@ module _ (p : PassView) (kind : Kind) (level n : ℕ) where
             let old = so.let_by x (omega (arith, less, last)) another same in
             (old.0, old.1, subst (λ (k : ℕ). Lets old.0 k) (sym (ap (λ (f : Kind → ℕ → ℕ → ℕ). f kind level n) so.still.ends)) old.2));
       }
+
+  -- where another member is scanned, the row is let by it or blocked
+  module _ {m x : ℕ} (at : IsMember m x) {q : PassView} (so : MembersSoFar m q) (another : x ≢ p.number) where
+    pub member_may : p.number < shape.passes → IsIdle p.seen p.number → IsChange kind → IsLevel shape level → May q (Scan kind level x)
+    member_may inside idle change there = may_scan p q kind level x so.still inside idle change there (member_inside at) (member_other at another)
+
+    module _ {w : ℕ} {r : PassView} (t : Stepped q (Scan kind level x) w r) where
+      pub member_more : Lets w end → not (lets (Some w) end) ≡ false → MembersSoFar (m + 1) r
+      member_more holds lets_it = past_member at r (row_more x q (before_member at q so) (member_inside at) (member_other at another) w r t holds lets_it)
+
+      pub member_stop : end ≢ 0 → not (lets (Some w) end) ≡ true → RowTried p kind level n (Some (record { level = level; row = n; pass = x; announced = w - 1 })) r
+      member_stop = row_stop x q (before_member at q so) (member_inside at) (member_other at another) w r t
+
+  pub members_through : {m : ℕ} {q : PassView} → MembersSoFar m q → m ≡ members shape level home → end ≢ 0 → RowTried p kind level n None q
+  members_through {m} {q} so last = row_through shape.passes q (past_all m q so last) (omega arith)
 
   -- a row that was never filled is open
   pub row_unused : IsLegal p.seen → end ≡ 0 → RowTried p kind level n None p

@@ -1,5 +1,5 @@
 -- The steps by which a call changes its level, or goes to the main word, and the one by which it ends.
-use Rattle.std.proofs.Common.{◌≡◌, ◌≢◌, inl, inr, ℕ, zero, suc, ◌-◌, ◌<◌, ◌≤◌, Bool, true, false, Some, None, length, set, get_or, refl, sym, ap, subst, ◌∙◌, arith}
+use Rattle.std.proofs.Common.{◌≡◌, ◌≢◌, inl, inr, ℕ, zero, suc, ◌+◌, ◌-◌, ◌<◌, ◌≤◌, Bool, true, false, Some, None, set, get_or, refl, sym, ap, subst, ◌∙◌, arith}
 use Rattle.std.specs.Prelude.{◌==◌, ◌&&◌, if◌then◌else◌}
 use Rattle.std.proofs.lemmas.Bool.{cases_eq, eq-eqb, ne_eqb}
 use Rattle.std.proofs.lemmas.List.{get_or-set_same, get_or-set_other, length-set}
@@ -8,41 +8,35 @@ use Rattle.fn_model.specs.declared.Kind.TheVariants.{Add, Sub, Read}
 use Rattle.fn_model.specs.Calls.{same_kind}
 use Rattle.fn_model.specs.Integer.{after}
 use Rattle.fn_rows.specs.declared.Stage.{Stage}
-use Rattle.fn_rows.specs.declared.Stage.TheVariants.{Out, Saw, Shut, Got}
+use Rattle.fn_rows.specs.declared.Stage.TheVariants.{Out, Saw, Shut, Based, Got}
 use Rattle.fn_layout.specs.declared.shape.Shape.{Shape}
-use Rattle.fn_layout.specs.Tree.{IsLevel}
 use Rattle.fn_core.specs.declared.Start.{Start}
 use Rattle.fn_core.specs.declared.Move.{Move}
 use Rattle.fn_core.specs.declared.Move.TheVariants.{See, Apply, Leave, Load, Exchange}
 use Rattle.fn_core.specs.declared.Purpose.TheVariants.{Try}
-use Rattle.fn_core.specs.declared.Position.TheVariants.{Resting, Climbing, Deciding}
+use Rattle.fn_core.specs.declared.Position.TheVariants.{Resting, Climbing}
 use Rattle.fn_core.specs.declared.answer.Answer.TheVariants as answers
+use Rattle.fn_core.specs.declared.answer.Answer.{Answer}
 use Rattle.fn_core.specs.declared.answer.Why.TheVariants.{Lost}
+use Rattle.fn_core.specs.declared.answer.CoreStep.{CoreStep}
 use Rattle.fn_core.specs.declared.answer.CoreStep.TheVariants as told
-use Rattle.fn_core.specs.State.{Caller, stage, reply_of, hi_of, lo_of}
+use Rattle.fn_core.specs.State.{stage, reply_of, hi_of, lo_of}
 use Rattle.fn_core.specs.Machine.{no_cap}
 use Rattle.fn_core.specs.Words.{Own}
 use Rattle.fn_core.specs.After.{out_of, in_stage, in_position, put_level, based_stage, based_own, loaded_own, exchanged_own, left_own}
 use Rattle.fn_core.specs.Fields.{exchange_answer}
 use Rattle.fn_core.specs.Order.{enters_main}
-use Rattle.fn_core.specs.Calls.{state_in, exchange_told, told_by, step_answer}
-use Rattle.fn_table.specs.Seen.{TableView, IsOf, PassView, May, Stepped, own_of, with_log}
+use Rattle.fn_core.specs.Calls.{state_in, exchange_told, told_by}
+use Rattle.fn_table.specs.Seen.{PassView, May, Stepped, own_of}
+use Rattle.fn_climb.specs.declared.course.Batch.{Batch}
 use Rattle.fn_climb.specs.declared.course.Course.{Course}
-use Rattle.fn_climb.specs.Next.{next_step}
-use Rattle.fn_climb.specs.Course.{held_at, at_stage, IsCourseOf, Holds, pending_of}
-use Rattle.fn_climb.specs.Steps.{Went}
+use Rattle.fn_climb.specs.Next.{next_step, IsNext}
+use Rattle.fn_climb.specs.Course.{IsCourseOf, batch_of, batch_below, at_stage, risen, sunk, Holds, pending_of}
+use Rattle.fn_climb.specs.Steps.{Went, Advanced}
 use Rattle.fn_climb.proofs.Underway.{placed, climbing_at, deciding_at, next_at_stage, may_at_stage, next_exchange, stage_now, held_is}
-use Rattle.fn_climb.proofs.Onward.{own_before, tells, went, holds_then, plain}
-use Rattle.fn_climb.proofs.Goes.{level_other, course_put, same_call, goes, at_rest}
-
--- a stage that is written where it stands
-held_same : (shape : Shape) (c : Course) (level l : ℕ) → length c.stages ≡ 3 → IsLevel shape level → IsLevel shape l → held_at (at_stage c level (held_at c level)) l ≡ held_at c l
-held_same shape c level l three inside there = elim (cases_eq (l - 1) (level - 1)) [
-  | inl same ↦
-      ap (λ (x : ℕ). get_or (set c.stages (level - 1) (held_at c level)) x Out) same ∙ get_or-set_same c.stages (level - 1) (held_at c level) Out (omega (arith, three, inside.0, inside.1, shape.levels_in_range))
-      ∙ sym (ap (λ (x : ℕ). get_or c.stages x Out) same)
-  | inr other ↦ get_or-set_other c.stages (level - 1) (l - 1) (held_at c level) Out other
-]
+use Rattle.fn_climb.proofs.Moves.{level_low}
+use Rattle.fn_climb.proofs.Onward.{own_before, plain}
+use Rattle.fn_climb.proofs.Goes.{level_same, level_other, course_on, course_with, tells_here, goes_told, goes_to, waits_at, at_rest}
 
 -- a kind that isn't Add
 pub not_added : (kind : Kind) (b : Bool) → (kind ≡ Add → ⊥) → (same_kind kind Add && b) ≡ false
@@ -50,172 +44,174 @@ not_added Add b never = absurd (never refl)
 not_added Sub b never = refl
 not_added Read b never = refl
 
--- how the call's level stands to the top of the table
-pub below_top : (p : PassView) (c : Course) (table : TableView) (shape : Shape) (levels : ℕ) → IsOf table p → shape ≡ table.start.shape → levels ≡ shape.levels → c.level < levels → c.level < p.seen.start.shape.levels
-below_top p c table shape levels of is top less = omega (arith, less, top, ap (λ (x : Shape). x.levels) is, ap (λ (x : Start). x.shape.levels) of.1)
+-- how the call's level stands to the top of its table
+pub below_top : {mine its : Start} {shape : Shape} {levels level : ℕ} → mine ≡ its → shape ≡ its.shape → levels ≡ shape.levels → level < levels → level < mine.shape.levels
+below_top of is top less = omega (arith, less, top, ap (λ (x : Shape). x.levels) is, ap (λ (x : Start). x.shape.levels) of)
 
-pub top_at : (p : PassView) (c : Course) (h : Holds p c) (table : TableView) (shape : Shape) (levels : ℕ) → IsOf table p → shape ≡ table.start.shape → levels ≡ shape.levels → levels ≤ c.level → c.level ≡ p.seen.start.shape.levels
-top_at p c h table shape levels of is top more =
-    let high = (placed p c h).1.1 in
-    omega (arith, more, high, top, ap (λ (x : Shape). x.levels) is, ap (λ (x : Start). x.shape.levels) of.1)
+pub top_at : {p : PassView} {c : Course} (h : Holds p c) {its : Start} {shape : Shape} {levels : ℕ} → p.seen.start ≡ its → shape ≡ its.shape → levels ≡ shape.levels → levels ≤ c.level → c.level ≡ p.seen.start.shape.levels
+top_at h of is top more =
+    let high = (placed h).1.1 in
+    omega (arith, more, high, top, ap (λ (x : Shape). x.levels) is, ap (λ (x : Start). x.shape.levels) of)
 
-module _ (p : PassView) (c : Course) (h : Holds p c) where
+module _ {p : PassView} {c : Course} (h : Holds p c) where
   abbrev start : Start
   start = p.seen.start
 
-  abbrev here : Caller
-  here = (own_of p).caller
-
   abbrev weight : ℕ
-  weight = hi_of (held_at c c.level) - lo_of (held_at c c.level)
+  weight = hi_of c.stage - lo_of c.stage
+
+  -- a batch gets a base at its level
+  abbrev based : ℕ → Own
+  based n = in_stage (own_of p) c.kind c.level (based_stage n ((own_of p).stages c.kind c.level))
+
+  course_based : {o : Own} (n : ℕ) → o.caller.position ≡ Climbing c.kind c.level → o.stages ≡ (based n).stages → IsCourseOf start o (at_stage c (based_stage n c.stage))
+  course_based n position stages = course_on h.course position (stages ∙ ap (λ (g : Stage). put_level (own_of p).stages c.kind c.level (based_stage n g)) (sym (held_is h)))
 
   -- the exchange of a delegate
-  module _ (word : ℕ) (loaded : c.word ≡ Some word) (n : ℕ) (q : PassView) (t : Stepped p (Exchange c.kind weight) n q) where
-    step : Move
-    step = Exchange c.kind weight
+  module _ {word : ℕ} (loaded : c.word ≡ Some word) {n : ℕ} {q : PassView} (t : Stepped p (Exchange c.kind weight) n q) where
+    next : IsNext (pending_of p c) (Exchange c.kind weight)
+    next = plain p c (next_exchange h loaded)
 
-    next : next_step p ≡ Exchange c.kind weight
-    next = next_exchange p c h word loaded
+    -- what it tells, and where the pass stands then
+    abbrev told_after : Bool → CoreStep
+    told_after won = exchange_told (if won then answers.Won else answers.Lost word n)
 
-    finds : step_answer start (state_in (with_log p t.before)) p.number ≡ exchange_told (if n == word then answers.Won else answers.Lost word n)
-    finds =
-        tells p c h (Exchange c.kind weight) n q t (plain p c (Exchange c.kind weight) next)
-        ∙ (λ i. exchange_told (exchange_answer (sym t.answer i) ((ap (λ (o : Own). o.caller.position) (own_before p c h (Exchange c.kind weight) n q t) ∙ deciding_at p c h word loaded) i)))
+    abbrev own_after_it : Bool → Own
+    own_after_it won = if won then in_position (based n) (Climbing c.kind c.level) else in_position (own_of p) (Climbing c.kind c.level)
 
-    won_own : Own
-    won_own = in_position (in_stage (own_of p) c.kind c.level (based_stage n ((own_of p).stages c.kind c.level))) (Climbing c.kind c.level)
+    tells_it : tells_here h t next ≡ told_after (n == word)
+    tells_it = λ i. exchange_told (exchange_answer (sym t.answer i) ((ap (λ (o : Own). o.caller.position) (own_before h t) ∙ deciding_at h loaded) i))
 
-    lost_own : Own
-    lost_own = in_position (own_of p) (Climbing c.kind c.level)
+    leaves_own : own_of q ≡ own_after_it (n == word)
+    leaves_own = t.own ∙ ap (exchanged_own p.number c.kind weight n (own_of p)) (deciding_at h loaded)
 
-    leaves_own : own_of q ≡ (if n == word then won_own else lost_own)
-    unfolding won_own lost_own
-    leaves_own = t.own ∙ ap (exchanged_own p.number c.kind weight n (own_of p)) (deciding_at p c h word loaded)
-
-    pub exchange_won : n ≡ word → Went (pending_of p c) told.Going q × (Holds q (at_stage c c.level (based_stage n (held_at c c.level))) × (c.rows ≡ c.rows))
-    unfolding won_own
+    pub exchange_won : n ≡ word → Advanced (pending_of p c) told.Going q (at_stage c (based_stage n c.stage))
     exchange_won same =
-        let yes : (n == word) ≡ true = eq-eqb n word same in
-        let won : own_of q ≡ won_own = leaves_own ∙ ap (λ (b : Bool). if b then won_own else lost_own) yes in
-        goes p c h (Exchange c.kind weight) n q t (plain p c (Exchange c.kind weight) next) (sym (finds ∙ ap (λ (b : Bool). exchange_told (if b then answers.Won else answers.Lost word n)) yes)) c.level (based_stage n (held_at c c.level)) (placed p c h).1
-        (ap (λ (o : Own). o.caller) won) (ap (λ (o : Own). o.stages) won ∙ ap (λ (g : Stage). put_level (own_of p).stages c.kind c.level (based_stage n g)) (sym (held_is p c h)))
+        let won : (n == word) ≡ true = eq-eqb n word same in
+        goes_to h t next (leaves_own ∙ ap own_after_it won) refl refl refl (course_based n refl refl) (tells_it ∙ ap told_after won)
 
-    pub exchange_lost : n ≢ word → Went (pending_of p c) (told.NotYet (Lost word n)) q × (Holds q (at_stage c c.level (held_at c c.level)) × (c.rows ≡ c.rows))
-    unfolding lost_own
+    pub exchange_lost : n ≢ word → Advanced (pending_of p c) (told.NotYet (Lost word n)) q (at_stage c c.stage)
     exchange_lost other =
-        let no_one : (n == word) ≡ false = ne_eqb n word other in
-        let lost : own_of q ≡ lost_own = leaves_own ∙ ap (λ (b : Bool). if b then won_own else lost_own) no_one in
-        let w = went p c h (Exchange c.kind weight) n q t (plain p c (Exchange c.kind weight) next) (told.NotYet (Lost word n)) (sym (finds ∙ ap (λ (b : Bool). exchange_told (if b then answers.Won else answers.Lost word n)) no_one)) (same_call p c h q (Climbing c.kind c.level) (ap (λ (o : Own). o.caller) lost)) in (
-          w,
-          (
-            holds_then p c h (Exchange c.kind weight) n q t (plain p c (Exchange c.kind weight) next) (at_stage c c.level (held_at c c.level)) refl refl (record {
-              position = ap (λ (o : Own). o.caller.position) lost;
-              three = length-set c.stages (c.level - 1) (held_at c c.level) ∙ h.course.three;
-              stages = λ l inside. held_same start.shape c c.level l h.course.three (placed p c h).1 inside ∙ h.course.stages l inside ∙ sym (ap (λ (o : Own). o.stages c.kind l) lost);
-            }) w.follows,
-            refl,
-          ),
-        )
+        let lost : (n == word) ≡ false = ne_eqb n word other in
+        waits_at h t next (leaves_own ∙ ap own_after_it lost) refl refl refl (course_with None h.course refl refl) (tells_it ∙ ap told_after lost)
 
   module _ (free : c.word ≡ None) where
-    module _ (at hi : ℕ) (is : held_at c c.level ≡ Shut at hi) where
+    module _ {at hi : ℕ} (is : c.stage ≡ Shut at hi) where
+      -- its next step goes up, or to the main word at the top
+      abbrev next_shut : Bool → Move
+      next_shut top = if top then enters_main start (state_in p.seen) p.number c.kind c.level else See c.kind (suc c.level)
+
+      next_by : {top : Bool} → (c.level == start.shape.levels) ≡ top → next_step p ≡ next_shut top
+      next_by which = next_at_stage h free is ∙ ap next_shut which
+
+      may_by : {top : Bool} → (c.level == start.shape.levels) ≡ top → May p (next_shut top)
+      may_by which = subst (λ (b : Bool). May p (next_shut b)) which (may_at_stage h free is)
+
       -- below the top the batch goes up
       module _ (below : c.level < start.shape.levels) where
-        next_up : next_step p ≡ See c.kind (suc c.level)
-        next_up = next_at_stage p c h free (Shut at hi) is ∙ ap (λ (b : Bool). if b then enters_main start (state_in p.seen) p.number c.kind c.level else See c.kind (suc c.level)) (ne_eqb c.level start.shape.levels (λ e. omega (arith, e, below)))
+        -- it stands where it was closed
+        abbrev none_there : Batch
+        none_there = record { at = 0; hi = 0 }
 
-        pub may_see : (level : ℕ) → level ≡ suc c.level → May p (See c.kind level)
-        may_see level up = subst (λ (l : ℕ). May p (See c.kind l)) (sym up) (subst (May p) (sym (next_at_stage p c h free (Shut at hi) is) ∙ next_up) (may_at_stage p c h free (Shut at hi) is))
+        under_risen : (l : ℕ) → 1 ≤ l → l < c.level + 1 → (own_of p).stages c.kind l ≡ (let b = get_or (set c.below (c.level - 1) (batch_of c.stage)) (l - 1) none_there in Shut b.at b.hi)
+        under_risen l low less = elim (cases_eq l c.level) [
+          | inl same ↦
+              ap ((own_of p).stages c.kind) same ∙ sym h.course.here ∙ is
+              ∙ ap (λ (b : Batch). Shut b.at b.hi) (sym (ap (λ (x : ℕ). get_or (set c.below (c.level - 1) (batch_of c.stage)) (x - 1) none_there) same
+              ∙ get_or-set_same c.below (c.level - 1) (batch_of c.stage) none_there (omega (arith, h.course.two, below, low, same, start.shape.levels_in_range)) ∙ ap batch_of is))
+          | inr other ↦
+              h.course.under l low (omega (arith, less, other))
+              ∙ ap (λ (b : Batch). Shut b.at b.hi) (sym (get_or-set_other c.below (c.level - 1) (l - 1) (batch_of c.stage) none_there (λ e. other (omega (arith, e, low, less)))))
+        ]
 
-        pub saw_above : (level : ℕ) → level ≡ suc c.level → (n : ℕ) (q : PassView) → Stepped p (See c.kind level) n q → Went (pending_of p c) told.Going q × (Holds q (at_stage c level (Saw n)) × (c.rows ≡ c.rows))
-        saw_above level up n q t =
-            let next : next_step p ≡ See c.kind level = next_up ∙ ap (See c.kind) (sym up) in
-            goes p c h (See c.kind level) n q t (plain p c (See c.kind level) next) (sym (tells p c h (See c.kind level) n q t (plain p c (See c.kind level) next))) level (Saw n) (omega (arith, up), omega (arith, up, below)) (ap (λ (o : Own). o.caller) t.own) (ap (λ (o : Own). o.stages) t.own)
+        not_top : (c.level == start.shape.levels) ≡ false
+        not_top = ne_eqb c.level start.shape.levels (λ e. omega (arith, e, below))
+
+        above : suc c.level ≡ c.level + 1
+        above = omega arith
+
+        pub may_see : May p (See c.kind (c.level + 1))
+        may_see = subst (λ (l : ℕ). May p (See c.kind l)) above (may_by not_top)
+
+        pub saw_above : {n : ℕ} {q : PassView} → Stepped p (See c.kind (c.level + 1)) n q → Advanced (pending_of p c) told.Going q (risen c n)
+        saw_above {n} t =
+            goes_to h t (plain p c (next_by not_top ∙ ap (See c.kind) above)) t.own refl refl refl (record {
+              position = refl;
+              here = sym (level_same (own_of p).stages c.kind (c.level + 1) (Saw n));
+              two = length-set c.below (c.level - 1) (batch_of c.stage) ∙ h.course.two;
+              under = λ l low less. level_other (own_of p).stages c.kind (c.level + 1) (Saw n) l (λ e. omega (arith, e, less)) ∙ under_risen l low less;
+            }) refl
 
       -- at the top it enters the main word
       module _ (top : c.level ≡ start.shape.levels) where
-        next_top : next_step p ≡ enters_main start (state_in p.seen) p.number c.kind c.level
-        next_top = next_at_stage p c h free (Shut at hi) is ∙ ap (λ (b : Bool). if b then enters_main start (state_in p.seen) p.number c.kind c.level else See c.kind (suc c.level)) (eq-eqb c.level start.shape.levels top)
+        abbrev enters : Bool → Move
+        enters adds = if adds then Apply (hi_of (stage start (state_in p.seen) c.kind c.level p.number) - lo_of (stage start (state_in p.seen) c.kind c.level p.number)) else Load Try
 
-        may_top : May p (enters_main start (state_in p.seen) p.number c.kind c.level)
-        may_top = subst (May p) (sym (next_at_stage p c h free (Shut at hi) is) ∙ next_top) (may_at_stage p c h free (Shut at hi) is)
+        at_top : (c.level == start.shape.levels) ≡ true
+        at_top = eq-eqb c.level start.shape.levels top
 
-        applies : c.kind ≡ Add → start.cap ≡ no_cap → enters_main start (state_in p.seen) p.number c.kind c.level ≡ Apply weight
-        applies adds uncapped =
-            ap (λ (b : Bool). if b then Apply (hi_of (stage start (state_in p.seen) c.kind c.level p.number) - lo_of (stage start (state_in p.seen) c.kind c.level p.number)) else Load Try)
-            (ap (λ (k : Kind). same_kind k Add && (start.cap == no_cap)) adds ∙ eq-eqb start.cap no_cap uncapped)
-            ∙ ap (λ (g : Stage). Apply (hi_of g - lo_of g)) (sym (held_is p c h))
+        -- it is added where nothing caps it
+        module _ (adds : c.kind ≡ Add) (uncapped : start.cap ≡ no_cap) where
+          applies : enters_main start (state_in p.seen) p.number c.kind c.level ≡ Apply weight
+          applies =
+              ap enters (ap (λ (k : Kind). same_kind k Add && (start.cap == no_cap)) adds ∙ eq-eqb start.cap no_cap uncapped)
+              ∙ ap (λ (g : Stage). Apply (hi_of g - lo_of g)) (sym (held_is h))
 
-        pub may_apply : c.kind ≡ Add → start.cap ≡ no_cap → May p (Apply weight)
-        may_apply adds uncapped = subst (May p) (applies adds uncapped) may_top
+          pub may_apply : May p (Apply weight)
+          may_apply = subst (May p) applies (may_by at_top)
 
-        pub applied : c.kind ≡ Add → start.cap ≡ no_cap → (n : ℕ) (q : PassView) → Stepped p (Apply weight) n q → Went (pending_of p c) told.Going q × (Holds q (at_stage c c.level (based_stage n (held_at c c.level))) × (c.rows ≡ c.rows))
-        applied adds uncapped n q t =
-            let next : next_step p ≡ Apply weight = next_top ∙ applies adds uncapped in
-            let after : own_of q ≡ in_stage (own_of p) c.kind c.level (based_stage n ((own_of p).stages c.kind c.level)) = t.own ∙ ap (based_own n (own_of p)) (climbing_at p c h free) in
-            goes p c h (Apply weight) n q t (plain p c (Apply weight) next) (sym (tells p c h (Apply weight) n q t (plain p c (Apply weight) next))) c.level (based_stage n (held_at c c.level)) (placed p c h).1
-            (ap (λ (o : Own). o.caller) after ∙ at_rest p c h free) (ap (λ (o : Own). o.stages) after ∙ ap (λ (g : Stage). put_level (own_of p).stages c.kind c.level (based_stage n g)) (sym (held_is p c h)))
+          pub applied : {n : ℕ} {q : PassView} → Stepped p (Apply weight) n q → Advanced (pending_of p c) told.Going q (at_stage c (based_stage n c.stage))
+          applied {n} t =
+              let after = t.own ∙ ap (based_own n (own_of p)) (climbing_at h free) in
+              goes_to h t (plain p c (next_by at_top ∙ applies)) after (at_rest h free) refl refl (course_based n (climbing_at h free) refl) refl
 
+        -- else the word is loaded, to be exchanged
         module _ (tries : (same_kind c.kind Add && (start.cap == no_cap)) ≡ false) where
-          loads : enters_main start (state_in p.seen) p.number c.kind c.level ≡ Load Try
-          loads = ap (λ (b : Bool). if b then Apply (hi_of (stage start (state_in p.seen) c.kind c.level p.number) - lo_of (stage start (state_in p.seen) c.kind c.level p.number)) else Load Try) tries
-
           pub may_load : May p (Load Try)
-          may_load = subst (May p) loads may_top
+          may_load = subst (May p) (ap enters tries) (may_by at_top)
 
-          pub loaded_word : (n : ℕ) (q : PassView) → Stepped p (Load Try) n q → Went (pending_of p c) told.Going q × (Holds q (record c { word = Some n }) × (c.rows ≡ c.rows))
-          loaded_word n q t =
-              let next : next_step p ≡ Load Try = next_top ∙ loads in
-              let after : own_of q ≡ in_position (own_of p) (Deciding c.kind c.level n) = t.own ∙ ap (loaded_own n (own_of p)) (climbing_at p c h free) in
-              let w = went p c h (Load Try) n q t (plain p c (Load Try) next) told.Going (sym (tells p c h (Load Try) n q t (plain p c (Load Try) next))) (same_call p c h q (Deciding c.kind c.level n) (ap (λ (o : Own). o.caller) after)) in (
-                w,
-                (
-                  holds_then p c h (Load Try) n q t (plain p c (Load Try) next) (record c { word = Some n }) refl refl
-                      (record { position = ap (λ (o : Own). o.caller.position) after; three = h.course.three; stages = λ l inside. h.course.stages l inside ∙ sym (ap (λ (o : Own). o.stages c.kind l) after) }) w.follows.0,
-                  refl,
-                ),
-              )
+          pub loaded_word : {n : ℕ} {q : PassView} → Stepped p (Load Try) n q → Advanced (pending_of p c) told.Going q (record c { word = Some n })
+          loaded_word {n} t =
+              let after = t.own ∙ ap (loaded_own n (own_of p)) (climbing_at h free) in
+              goes_to h t (plain p c (next_by at_top ∙ ap enters tries)) after refl refl refl (course_with (Some n) h.course refl refl) refl
 
     -- the call leaves its aggregator with a base
-    module _ (base ahead : ℕ) (is : held_at c c.level ≡ Got base ahead) (n : ℕ) (q : PassView) (t : Stepped p (Leave c.kind c.level) n q) where
-      next_leave : next_step p ≡ Leave c.kind c.level
-      next_leave = next_at_stage p c h free (Got base ahead) is
+    module _ {base ahead : ℕ} (is : c.stage ≡ Got base ahead) {n : ℕ} {q : PassView} (t : Stepped p (Leave c.kind c.level) n q) where
+      abbrev reply : ℕ
+      reply = after start.cap base c.kind ahead
 
-      replies : reply_of start.cap c.kind ((own_of p).stages c.kind c.level) ≡ after start.cap base c.kind ahead
-      replies = ap (reply_of start.cap c.kind) (stage_now p c h free (Got base ahead) is)
+      next_leave : IsNext (pending_of p c) (Leave c.kind c.level)
+      next_leave = plain p c (next_at_stage h free is)
 
-      ends_by : (l : ℕ) → l ≡ 1 → step_answer start (state_in (with_log p t.before)) p.number ≡ told_by start.cap (Leave c.kind l) (stage start (state_in (with_log p t.before)) c.kind l p.number) (Rattle.fn_core.specs.Fields.answer_of start (state_in (with_log p t.before)) p.number (Leave c.kind l))
-          → step_answer start (state_in (with_log p t.before)) p.number ≡ told.Ready (reply_of start.cap c.kind (stage start (state_in (with_log p t.before)) c.kind l p.number))
-      ends_by zero one is' = absurd (omega (arith, one))
-      ends_by (suc zero) one is' = is'
-      ends_by (suc (suc below)) one is' = absurd (omega (arith, one))
+      replies : reply_of start.cap c.kind ((own_of p).stages c.kind c.level) ≡ reply
+      replies = ap (reply_of start.cap c.kind) (stage_now h free is)
+
+      -- at a leaf it ends
+      ends_by : (l : ℕ) → l ≡ 1 → (stood : Stage) (answer : Answer) → told_by start.cap (Leave c.kind l) stood answer ≡ told.Ready (reply_of start.cap c.kind stood)
+      ends_by zero one stood answer = absurd (omega (arith, one))
+      ends_by (suc zero) one stood answer = refl
+      ends_by (suc (suc below)) one stood answer = absurd (omega (arith, one))
 
       rests_by : (l : ℕ) → l ≡ 1 → left_own start.cap c.kind l (own_of p) ≡ in_position (out_of (own_of p) c.kind l) Resting
       rests_by zero one = absurd (omega (arith, one))
       rests_by (suc zero) one = refl
       rests_by (suc (suc below)) one = absurd (omega (arith, one))
 
-      pub left_leaf : c.level ≡ 1 → Went (pending_of p c) (told.Ready (after start.cap base c.kind ahead)) q
+      pub left_leaf : c.level ≡ 1 → Went (pending_of p c) (told.Ready reply) q
       left_leaf one =
-          let rest : own_of q ≡ in_position (out_of (own_of p) c.kind c.level) Resting = t.own ∙ rests_by c.level one in
-          let there : stage start (state_in (with_log p t.before)) c.kind c.level p.number ≡ (own_of p).stages c.kind c.level = ap (λ (o : Own). o.stages c.kind c.level) (own_before p c h (Leave c.kind c.level) n q t) in
-          went p c h (Leave c.kind c.level) n q t (plain p c (Leave c.kind c.level) next_leave) (told.Ready (after start.cap base c.kind ahead))
-          (sym (ends_by c.level one (tells p c h (Leave c.kind c.level) n q t (plain p c (Leave c.kind c.level) next_leave)) ∙ ap told.Ready (ap (reply_of start.cap c.kind) there ∙ replies)))
-          (same_call p c h q Resting (ap (λ (o : Own). o.caller) rest))
+          let there = ap (λ (o : Own). o.stages c.kind c.level) (own_before h t) in
+          goes_told h t next_leave (t.own ∙ rests_by c.level one) refl (ends_by c.level one _ _ ∙ ap told.Ready (ap (reply_of start.cap c.kind) there ∙ replies))
 
       -- or it goes down a level
-      module _ (below : ℕ) (up : c.level ≡ suc below) (low : 1 ≤ below) where
-        abbrev reply : ℕ
-        reply = after start.cap base c.kind ahead
-
+      module _ {below : ℕ} (up : c.level ≡ suc below) (low : 1 ≤ below) where
         abbrev left : Own
         left = out_of (own_of p) c.kind c.level
 
-        abbrev lower : Stage
-        lower = based_stage reply (held_at c below)
+        abbrev batch : Batch
+        batch = batch_below c below
 
-        inside_below : IsLevel start.shape below
-        inside_below = let high = (placed p c h).1.1 in (low, omega (arith, high, up))
+        abbrev lower : Stage
+        lower = Based batch.at batch.hi reply
 
         down_by : (l b : ℕ) → l ≡ suc b → 1 ≤ b → left_own start.cap c.kind l (own_of p)
             ≡ in_position (in_stage (out_of (own_of p) c.kind l) c.kind b (based_stage (reply_of start.cap c.kind ((own_of p).stages c.kind l)) ((out_of (own_of p) c.kind l).stages c.kind b))) (Climbing c.kind b)
@@ -229,7 +225,7 @@ module _ (p : PassView) (c : Course) (h : Holds p c) where
         lower_is : based_stage (reply_of start.cap c.kind ((own_of p).stages c.kind c.level)) (left.stages c.kind below) ≡ lower
         lower_is =
             (λ i. based_stage (replies i) (level_other (own_of p).stages c.kind c.level Out below (λ e. omega (arith, e, up)) i))
-            ∙ ap (based_stage reply) (sym (h.course.stages below inside_below))
+            ∙ ap (based_stage reply) (h.course.under below low (omega (arith, up)))
 
         gone : own_of q ≡ in_position (in_stage left c.kind below lower) (Climbing c.kind below)
         gone = t.own ∙ down_by c.level below up low ∙ ap (λ (g : Stage). in_position (in_stage left c.kind below g) (Climbing c.kind below)) lower_is
@@ -239,19 +235,21 @@ module _ (p : PassView) (c : Course) (h : Holds p c) where
         going_by (suc zero) e stood answer = absurd (omega (arith, e, low))
         going_by (suc (suc k)) e stood answer = refl
 
-        pub left_down : Went (pending_of p c) told.Going q × (Holds q (at_stage (at_stage c c.level Out) below lower) × (c.rows ≡ c.rows))
-        left_down =
-            let step : Move = Leave c.kind c.level in
-            let w = went p c h step n q t (plain p c (Leave c.kind c.level) next_leave) told.Going (sym (tells p c h step n q t (plain p c (Leave c.kind c.level) next_leave) ∙ going_by c.level up _ _)) (same_call p c h q (Climbing c.kind below) (ap (λ (o : Own). o.caller) gone)) in
-            let o1 : Own = in_position left (Climbing c.kind c.level) in
-            let first : IsCourseOf start o1 (at_stage c c.level Out) = course_put start (own_of p) o1 c c.level Out (placed p c h).1 h.course.three h.course.stages refl refl in (
-              w,
-              (
-                holds_then p c h step n q t (plain p c (Leave c.kind c.level) next_leave) (at_stage (at_stage c c.level Out) below lower) refl refl
-                    (course_put start o1 (own_of q) (at_stage c c.level Out) below lower inside_below first.three first.stages (ap (λ (o : Own). o.caller.position) gone) (ap (λ (o : Own). o.stages) gone)) w.follows.0,
-                refl,
-              ),
-            )
+        -- what stands below that level
+        under_sunk : (l : ℕ) → 1 ≤ l → l < below → put_level left.stages c.kind below lower c.kind l ≡ Shut (batch_below c l).at (batch_below c l).hi
+        under_sunk l some less =
+            level_other left.stages c.kind below lower l (λ e. omega (arith, e, less))
+            ∙ level_other (own_of p).stages c.kind c.level Out l (λ e. omega (arith, e, less, up)) ∙ h.course.under l some (omega (arith, less, up))
 
-        pub held_lower : held_at (at_stage c c.level Out) below ≡ held_at c below
-        held_lower = get_or-set_other c.stages (c.level - 1) (below - 1) Out Out (λ e. omega (arith, e, up, low))
+        goes_down : Advanced (pending_of p c) told.Going q (sunk c reply)
+        goes_down =
+            let down : below ≡ c.level - 1 = omega (arith, up) in
+            goes_to h t next_leave gone refl refl refl (record {
+              position = ap (Climbing c.kind) down;
+              here = rw (← down) (sym (level_same left.stages c.kind below lower));
+              two = h.course.two;
+              under = λ l some less. under_sunk l some (omega (arith, less, down));
+            }) (going_by c.level up _ _)
+
+      pub left_down : c.level ≢ 1 → Advanced (pending_of p c) told.Going q (sunk c reply)
+      left_down other = let low = level_low h in goes_down {below = c.level - 1} (omega (arith, low)) (omega (arith, low, other))

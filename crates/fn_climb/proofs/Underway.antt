@@ -16,10 +16,10 @@ use Rattle.fn_core.specs.Calls.{state_in}
 use Rattle.fn_core.proofs.Public.{calls_are_placed, calls_always_go_on, positions_fit}
 use Rattle.fn_table.specs.Seen.{PassView, May, own_of}
 use Rattle.fn_climb.specs.declared.course.Course.{Course}
-use Rattle.fn_climb.specs.Course.{position_by, position_of, held_at, Holds}
+use Rattle.fn_climb.specs.Course.{position_by, position_of, Holds}
 use Rattle.fn_climb.specs.Next.{next_step}
 
-module _ (p : PassView) (c : Course) (h : Holds p c) where
+module _ {p : PassView} {c : Course} (h : Holds p c) where
   abbrev s : State
   s = state_in p.seen
 
@@ -51,8 +51,8 @@ module _ (p : PassView) (c : Course) (h : Holds p c) where
   pub climbs : IsClimbing shape.levels (own_of p).stages c.kind c.level
   climbs = fits_by c.word fits
 
-  pub held_is : held_at c c.level ≡ stage p.seen.start s c.kind c.level p.number
-  held_is = h.course.stages c.level placed.1
+  pub held_is : c.stage ≡ stage p.seen.start s c.kind c.level p.number
+  held_is = h.course.here
 
   -- it may take its next step
   pub may_next : May p (next_step p)
@@ -62,23 +62,23 @@ module _ (p : PassView) (c : Course) (h : Holds p c) where
     pub climbing_at : (s.callers p.number).position ≡ Climbing c.kind c.level
     climbing_at = h.course.position ∙ ap (position_by c.kind c.level) none
 
+    pub stage_now : {g : Stage} → c.stage ≡ g → (own_of p).stages c.kind c.level ≡ g
+    stage_now is = sym held_is ∙ is
+
     -- its next step, by where it stands
-    pub next_at_stage : (g : Stage) → held_at c c.level ≡ g → next_step p ≡ next_at p.seen.start s p.number c.kind c.level g
-    next_at_stage g is = ap (next_by p.seen.start s p.number) climbing_at ∙ ap (next_at p.seen.start s p.number c.kind c.level) (sym held_is ∙ is)
+    pub next_at_stage : {g : Stage} → c.stage ≡ g → next_step p ≡ next_at p.seen.start s p.number c.kind c.level g
+    next_at_stage is = ap (next_by p.seen.start s p.number) climbing_at ∙ ap (next_at p.seen.start s p.number c.kind c.level) (stage_now is)
 
-    pub may_at_stage : (g : Stage) → held_at c c.level ≡ g → May p (next_at p.seen.start s p.number c.kind c.level g)
-    may_at_stage g is = subst (May p) (next_at_stage g is) may_next
+    pub may_at_stage : {g : Stage} → c.stage ≡ g → May p (next_at p.seen.start s p.number c.kind c.level g)
+    may_at_stage is = subst (May p) (next_at_stage is) may_next
 
-    pub stage_now : (g : Stage) → held_at c c.level ≡ g → (own_of p).stages c.kind c.level ≡ g
-    stage_now g is = sym held_is ∙ is
-
-  module _ (word : ℕ) (loaded : c.word ≡ Some word) where
+  module _ {word : ℕ} (loaded : c.word ≡ Some word) where
     pub deciding_at : (s.callers p.number).position ≡ Deciding c.kind c.level word
     deciding_at = h.course.position ∙ ap (position_by c.kind c.level) loaded
 
     -- where it has loaded the main word, it exchanges it
-    pub next_exchange : next_step p ≡ Exchange c.kind (hi_of (held_at c c.level) - lo_of (held_at c c.level))
+    pub next_exchange : next_step p ≡ Exchange c.kind (hi_of (c.stage) - lo_of (c.stage))
     next_exchange = ap (next_by p.seen.start s p.number) deciding_at ∙ ap (λ (g : Stage). Exchange c.kind (hi_of g - lo_of g)) (sym held_is)
 
-    pub may_exchange : May p (Exchange c.kind (hi_of (held_at c c.level) - lo_of (held_at c c.level)))
+    pub may_exchange : May p (Exchange c.kind (hi_of (c.stage) - lo_of (c.stage)))
     may_exchange = subst (May p) next_exchange may_next

@@ -1,14 +1,14 @@
 -- What a call in memory knows of itself.
 --     position_of course      where its pass stands
---     held_at course level      where the call stands at a level
+--     at_stage course stage, risen course seen, sunk course base      the call after it has gone on at its level, up a level, or down one
 --     IsCourseOf start own course, HasChosen core pass course      the numbers are those of the pass's own, and the rows those that the call will fill
 --     Holds pass course      the pass has a call underway, which this is
 --     pending_of pass course      what the two together are known by
 --     Moved pass course stage after      the call took its next step at its level, to this stage
-use Rattle.std.specs.Prelude.{◌≡◌, ◌<◌, ◌-◌, ◌+◌, ◌*◌, ◌==◌, if◌then◌else◌, ℕ, Bool, true, false, Option, Some, None, length, set, slice_index_or}
+use Rattle.std.specs.Prelude.{◌≡◌, ◌<◌, ◌≤◌, ◌-◌, ◌+◌, ◌*◌, ◌==◌, if◌then◌else◌, ℕ, Bool, true, false, Option, Some, None, length, set, slice_index_or}
 use Rattle.fn_model.specs.declared.Kind.{Kind}
 use Rattle.fn_rows.specs.declared.Stage.{Stage}
-use Rattle.fn_rows.specs.declared.Stage.TheVariants.{Out, Saw, Told, Lead, Late, Shut, Based, Headed, FilledLo, FilledBase, Filled, Pointed, At, Over, Hit}
+use Rattle.fn_rows.specs.declared.Stage.TheVariants.{Saw, Told, Lead, Late, Shut, Based, Headed, FilledLo, FilledBase, Filled, Pointed, At, Over, Hit}
 use Rattle.fn_rows.specs.declared.Field.{Field}
 use Rattle.fn_layout.specs.declared.shape.Shape.{Shape}
 use Rattle.fn_layout.specs.Tree.{IsLevel, aggregator, member}
@@ -27,6 +27,7 @@ use Rattle.fn_core.specs.Filling.{FillsAt}
 use Rattle.fn_core.specs.After.{put_level}
 use Rattle.fn_core.specs.Calls.{state_in, IsLegal, HasCall, told_by}
 use Rattle.fn_table.specs.Seen.{PassView, Stepped, own_of}
+use Rattle.fn_climb.specs.declared.course.Batch.{Batch}
 use Rattle.fn_climb.specs.declared.course.Course.{Course}
 use Rattle.fn_climb.specs.Next.{PendingView, IsNext}
 
@@ -39,21 +40,33 @@ position_by kind level (Some word) = Deciding kind level word
 abbrev pub position_of : Course → Position
 position_of c = position_by c.kind c.level c.word
 
--- where the call stands at a level
-abbrev pub held_at : Course → ℕ → Stage
-held_at c level = slice_index_or c.stages (level - 1) Out
-
 -- the call has closed its batch
 abbrev pub IsShut : Course → Type 0
-IsShut c = (at hi : ℕ) × (held_at c c.level ≡ Shut at hi)
+IsShut c = (at hi : ℕ) × (c.stage ≡ Shut at hi)
 
--- the call after it has gone on to a stage at a level
-abbrev pub at_stage : Course → ℕ → Stage → Course
-at_stage c level g = record c { level = level; word = None; stages = set c.stages (level - 1) g }
+-- the batch that it has closed at a level below its own
+abbrev pub batch_below : Course → ℕ → Batch
+batch_below c level = slice_index_or c.below (level - 1) (record { at = 0; hi = 0 })
+
+-- the call after it has gone on to a stage at its level
+abbrev pub at_stage : Course → Stage → Course
+at_stage c g = record c { word = None; stage = g }
+
+-- the batch that a call has closed which is at this stage
+abbrev pub batch_of : Stage → Batch
+batch_of g = record { at = lo_of g; hi = hi_of g }
+
+-- the call after it has gone up a level with the batch that it had closed
+abbrev pub risen : Course → ℕ → Course
+risen c seen = record c { level = c.level + 1; word = None; stage = Saw seen; below = set c.below (c.level - 1) (batch_of c.stage) }
+
+-- .. and down a level, where it gets a base for the batch that it had closed there
+abbrev pub sunk : Course → ℕ → Course
+sunk c base = let batch = batch_below c (c.level - 1) in record c { level = c.level - 1; word = None; stage = Based batch.at batch.hi base }
 
 -- the weight of the batch that the call has closed one level below its own
 abbrev pub weight_below : Course → ℕ
-weight_below c = if c.level == 1 then 0 else hi_of (held_at c (c.level - 1)) - lo_of (held_at c (c.level - 1))
+weight_below c = if c.level == 1 then 0 else (batch_below c (c.level - 1)).hi - (batch_below c (c.level - 1)).at
 
 -- whether a late call has a row in hand
 abbrev pub walks : Stage → Bool
@@ -91,8 +104,9 @@ IsLink shape word = (kind : Kind) × (level index row : ℕ) × IsAggregator sha
 -- the course is that of a pass with this own
 pub record IsCourseOf (start : Start) (o : Own) (c : Course) : Type 0 where
   pub position : o.caller.position ≡ position_of c
-  pub three : length c.stages ≡ 3
-  pub stages : (level : ℕ) → IsLevel start.shape level → held_at c level ≡ o.stages c.kind level
+  pub here : c.stage ≡ o.stages c.kind c.level
+  pub two : length c.below ≡ 2
+  pub under : (level : ℕ) → 1 ≤ level → level < c.level → o.stages c.kind level ≡ Shut (batch_below c level).at (batch_below c level).hi
 
 -- the row in memory for a level, by its number at the aggregator
 abbrev pub chosen_at : PassView → Course → ℕ → ℕ

@@ -2,10 +2,10 @@
 ghost use Rattle.std.specs.Prelude.{◌≡◌, None, Some, true};
 ghost use Rattle.fn_rows.specs.Law.{row_in_hand};
 ghost use Rattle.fn_table.specs.Seen.{IsOf, May, Stepped};
-ghost use Rattle.fn_climb.specs.Course.{held_at, goes_on, has_row, walks, peek_of, Holds, Moved};
+ghost use Rattle.fn_climb.specs.Course.{chosen_at, goes_on, has_row, walks, peek_of, Holds, Moved};
 
 use crate::course::Course;
-use crate::row_words::{link, local_row, own_row, row_read, row_there};
+use crate::row_words::{link, own_row, row_read, row_there, shape_of, spot_of};
 use fn_layout::Field;
 use fn_rows::Stage;
 use fn_table::{
@@ -17,7 +17,7 @@ pub fn go_on(table: &FunnelTable, pass: &mut Pass, course: &Course, stage: Stage
     requires together { IsOf table.now pass.old }
     requires holds { Holds pass.old course.now }
     requires free { course.now.word ≡ None }
-    requires there { held_at course.now course.now.level ≡ stage }
+    requires there { course.now.stage ≡ stage }
     requires goes_on { goes_on stage ≡ true }
     ensures { Moved pass.old course.now result pass.new }
 {
@@ -33,12 +33,14 @@ pub fn go_on(table: &FunnelTable, pass: &mut Pass, course: &Course, stage: Stage
         }
         Stage::Lead(at) => Stage::Shut(at, close_batch(table, pass, kind, level)),
         Stage::Late(at) => {
+            let shape = shape_of(table, pass);
             let word = head(table, pass, kind, level);
-            Stage::At(at, row_read(table.shape(), word).saturating_sub(1))
+            Stage::At(at, row_read(shape, word).saturating_sub(1))
         }
         Stage::Based(at, hi, base) => {
+            let shape = shape_of(table, pass);
             let word = head(table, pass, kind, level);
-            Stage::Headed(at, hi, base, row_read(table.shape(), word))
+            Stage::Headed(at, hi, base, row_read(shape, word))
         }
         _ => fill_row(table, pass, course, stage),
     }
@@ -49,33 +51,32 @@ fn fill_row(table: &FunnelTable, pass: &mut Pass, course: &Course, stage: Stage)
     requires together { IsOf table.now pass.old }
     requires holds { Holds pass.old course.now }
     requires free { course.now.word ≡ None }
-    requires there { held_at course.now course.now.level ≡ stage }
+    requires there { course.now.stage ≡ stage }
     requires has_row { has_row stage ≡ true }
     ensures { Moved pass.old course.now result pass.new }
 {
-    let (shape, kind, level) = (table.shape(), course.kind, course.level);
-    let number = pass.number();
+    let (kind, level) = (course.kind, course.level);
     match stage {
         Stage::Headed(at, hi, base, last) => {
-            let row = course.rows[(level - 1) as usize];
-            let row = shape.row_of(number, kind, level, row);
+            let local = chosen(table, pass, course);
+            let row = own_row(table, pass, course, local);
             fill(table, pass, row, Field::Lo, at);
-            Stage::FilledLo(at, hi, base, last, local_row(shape, level, number, row))
+            Stage::FilledLo(at, hi, base, last, local)
         }
         Stage::FilledLo(at, hi, base, last, local) => {
-            let row = own_row(shape, number, kind, level, local);
+            let row = own_row(table, pass, course, local);
             fill(table, pass, row, Field::Base, base);
             Stage::FilledBase(at, hi, base, last, local)
         }
         Stage::FilledBase(at, hi, base, last, local) => {
-            let row = own_row(shape, number, kind, level, local);
-            let index = shape.aggregator_of(number, level);
-            let word = link(shape, kind, level, index, last);
+            let row = own_row(table, pass, course, local);
+            let index = spot_of(pass, course).index;
+            let word = link(shape_of(table, pass), kind, level, index, last);
             fill(table, pass, row, Field::Prev, word);
             Stage::Filled(at, hi, base, local)
         }
         Stage::Filled(at, hi, base, local) => {
-            let row = own_row(shape, number, kind, level, local);
+            let row = own_row(table, pass, course, local);
             point(table, pass, kind, level, row);
             Stage::Pointed(at, hi, base, local)
         }
@@ -87,12 +88,23 @@ fn fill_row(table: &FunnelTable, pass: &mut Pass, course: &Course, stage: Stage)
     }
 }
 
+// The row in memory for the call's level, by its number at the aggregator.
+fn chosen(table: &FunnelTable, pass: &Pass, course: &Course) -> u64
+    requires together { IsOf table.now pass.now }
+    requires holds { Holds pass.now course.now }
+    ensures { result ≡ chosen_at pass.now course.now course.now.level }
+{
+    let (shape, level) = (shape_of(table, pass), course.level);
+    let row = course.rows[(level - 1) as usize];
+    u64::from(shape.member(pass.number(), level)) * u64::from(shape.rows()) + u64::from(row)
+}
+
 // Takes the next step of a late call, which walks along the rows to the one of its batch.
 fn walk(table: &FunnelTable, pass: &mut Pass, course: &Course, stage: Stage) -> Stage
     requires together { IsOf table.now pass.old }
     requires holds { Holds pass.old course.now }
     requires free { course.now.word ≡ None }
-    requires there { held_at course.now course.now.level ≡ stage }
+    requires there { course.now.stage ≡ stage }
     requires walks { walks stage ≡ true }
     ensures { Moved pass.old course.now result pass.new }
 {
@@ -106,8 +118,9 @@ fn walk(table: &FunnelTable, pass: &mut Pass, course: &Course, stage: Stage) -> 
             }
         }
         Stage::Over(at, row) => {
+            let shape = shape_of(table, pass);
             let word = peek_at(table, pass, course, row, Field::Prev);
-            Stage::At(at, row_read(table.shape(), word).saturating_sub(1))
+            Stage::At(at, row_read(shape, word).saturating_sub(1))
         }
         Stage::Hit(at, row, lo) => {
             let base = peek_at(table, pass, course, row, Field::Base);
@@ -122,12 +135,11 @@ fn peek_at(table: &FunnelTable, pass: &mut Pass, course: &Course, row: u64, fiel
     requires together { IsOf table.now pass.old }
     requires holds { Holds pass.old course.now }
     requires free { course.now.word ≡ None }
-    requires in_hand { row_in_hand (held_at course.now course.now.level) ≡ Some row }
+    requires in_hand { row_in_hand (course.now.stage) ≡ Some row }
     requires may { May pass.old (peek_of pass.old course.now row field) }
     ensures { Stepped pass.old (peek_of pass.old course.now row field) result pass.new }
 {
-    let shape = table.shape();
-    let index = shape.aggregator_of(pass.number(), course.level);
-    let row = row_there(shape, course.kind, course.level, index, row);
+    let index = spot_of(pass, course).index;
+    let row = row_there(shape_of(table, pass), course.kind, course.level, index, row);
     peek(table, pass, row, field)
 }

@@ -1,6 +1,6 @@
 //! How a call begins: it finds a row at each level, and arrives at its leaf.
 ghost use Rattle.std.specs.Prelude.{◌≡◌, ◌<◌, IfOk, IfErr};
-ghost use Rattle.fn_layout.specs.Tree.{IsLevel};
+ghost use Rattle.fn_layout.specs.Tree.{IsLevel, width, members, pass_of};
 ghost use Rattle.fn_layout.specs.Words.{IsSlot};
 ghost use Rattle.fn_core.specs.Machine.{IsChange, MaySpend};
 ghost use Rattle.fn_core.specs.Calls.{state_in, IsIdle};
@@ -9,10 +9,11 @@ ghost use Rattle.fn_climb.specs.declared.beginning.Begun.TheVariants as begun;
 ghost use Rattle.fn_climb.specs.Course.{Holds, pending_of};
 ghost use Rattle.fn_climb.specs.Begin.{AreOpen, Arrived, BeginAnswers, RowTried, LevelTried, RowsTried};
 
-use crate::course::Course;
+use crate::course::{Batch, Course};
 use crate::pending::Pending;
+use crate::row_words::shape_of;
 use fn_core::Blocked;
-use fn_layout::Kind;
+use fn_layout::{Kind, Shape};
 use fn_rows::{Stage, lets};
 use fn_table::{FunnelTable, Pass, announce, arrive, scan, see};
 
@@ -87,7 +88,8 @@ fn arrive_at_leaf(
         kind,
         level: 1,
         word: None,
-        stages: [Stage::Waiting(at), Stage::Out, Stage::Out],
+        stage: Stage::Waiting(at),
+        below: [Batch { at: 0, hi: 0 }; 2],
         rows,
     }
 }
@@ -101,7 +103,7 @@ fn find_rows(table: &FunnelTable, pass: &mut Pass, kind: Kind) -> Result<[u32; 3
 {
     let _number = pass.number();
     let mut rows = [0; 3];
-    for level in 1..table.shape().levels() + 1 {
+    for level in 1..shape_of(table, pass).levels() + 1 {
         match find_row(table, pass, kind, level) {
             Ok(row) => rows[(level - 1) as usize] = row,
             Err(blocked) => return Err(blocked),
@@ -125,7 +127,7 @@ fn find_row(table: &FunnelTable, pass: &mut Pass, kind: Kind, level: u32) -> Res
         pass: 0,
         announced: 0,
     };
-    for row in 0..table.shape().rows() {
+    for row in 0..shape_of(table, pass).rows() {
         match try_row(table, pass, kind, level, row) {
             None => return Ok(row),
             Some(blocked) => last = blocked,
@@ -154,10 +156,10 @@ fn try_row(
     if end == 0 {
         return None;
     }
-    let shape = table.shape();
-    let index = shape.aggregator_of(number, level);
-    for member in 0..shape.members(level, index) {
-        let other = shape.pass_of(level, index, member);
+    let shape = shape_of(table, pass);
+    let spot = pass.spot(kind, level);
+    for member in 0..spot.members {
+        let other = member_of(shape, level, spot.index, member);
         if other == number {
             continue;
         }
@@ -172,4 +174,19 @@ fn try_row(
         }
     }
     None
+}
+
+// The pass with this number among those of an aggregator; at a leaf it is found with no division.
+#[inline(always)]
+fn member_of(shape: Shape, level: u32, index: u32, number: u32) -> u32
+    requires level { IsLevel shape level }
+    requires index { index < width shape level }
+    requires number { number < members shape level index }
+    ensures exact { result ≡ pass_of shape level index number }
+    ensures in_range { result < shape.passes }
+{
+    match level {
+        1 => number * shape.leaves() + index,
+        _ => shape.pass_of(level, index, number),
+    }
 }

@@ -3,7 +3,7 @@ ghost use Rattle.std.specs.Prelude.{◌≡◌, List, None};
 ghost use Rattle.fn_core.specs.declared.Move.{Move};
 ghost use Rattle.fn_rows.specs.declared.Stage.TheVariants as stage;
 ghost use Rattle.fn_table.specs.Seen.{IsOf};
-ghost use Rattle.fn_climb.specs.Course.{held_at, Holds, pending_of};
+ghost use Rattle.fn_climb.specs.Course.{Holds, pending_of};
 ghost use Rattle.fn_climb.specs.Turns.{GoesOn};
 
 use crate::course::Course;
@@ -36,7 +36,7 @@ fn close_led(table: &FunnelTable, pass: &mut Pass, course: &mut Course)
     ensures rows { course.new.rows ≡ course.old.rows }
 {
     if course.word.is_none() {
-        match course.held_at(course.level) {
+        match course.stage {
             Stage::Lead(at) => take_up(table, pass, course, at),
             _ => {}
         }
@@ -49,13 +49,13 @@ fn take_up(table: &FunnelTable, pass: &mut Pass, course: &mut Course, at: u64)
     requires together { IsOf table.now pass.old }
     requires holds { Holds pass.old course.old }
     requires free { course.old.word ≡ None }
-    requires leads { held_at course.old course.old.level ≡ stage.Lead at }
+    requires leads { course.old.stage ≡ stage.Lead at }
     ensures together { IsOf table.now pass.new }
     ensures steps { (steps : List Move) × GoesOn (pending_of pass.old course.old) steps pass.new }
     ensures holds { Holds pass.new course.new }
     ensures rows { course.new.rows ≡ course.old.rows }
 {
     let hi = close_batch(table, pass, course.kind, course.level);
-    course.go_to(course.level, Stage::Shut(at, hi));
+    course.go_to(Stage::Shut(at, hi));
     go_up(table, pass, course);
 }

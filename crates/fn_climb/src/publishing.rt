@@ -3,10 +3,11 @@ ghost use Rattle.std.specs.Prelude.{◌≡◌, List, None};
 ghost use Rattle.fn_core.specs.declared.Move.{Move as Moves};
 ghost use Rattle.fn_rows.specs.declared.Stage.TheVariants as stage;
 ghost use Rattle.fn_table.specs.Seen.{IsOf};
-ghost use Rattle.fn_climb.specs.Course.{held_at, Holds, pending_of};
+ghost use Rattle.fn_climb.specs.Course.{Holds, pending_of};
 ghost use Rattle.fn_climb.specs.Turns.{GoesOn};
 
 use crate::course::Course;
+use crate::row_words::spot_of;
 use fn_layout::Field;
 use fn_rows::Stage;
 use fn_table::{FunnelTable, Pass, fill, head, point, publish};
@@ -21,7 +22,7 @@ pub fn publish_based(table: &FunnelTable, pass: &mut Pass, course: &mut Course)
     ensures rows { course.new.rows ≡ course.old.rows }
 {
     if course.word.is_none() {
-        match course.held_at(course.level) {
+        match course.stage {
             Stage::Based(at, hi, base) => publish_batch(table, pass, course, at, hi, base),
             _ => {}
         }
@@ -41,20 +42,18 @@ fn publish_batch(
     requires together { IsOf table.now pass.old }
     requires holds { Holds pass.old course.old }
     requires free { course.old.word ≡ None }
-    requires based { held_at course.old course.old.level ≡ stage.Based at hi base }
+    requires based { course.old.stage ≡ stage.Based at hi base }
     ensures steps { (steps : List Moves) × GoesOn (pending_of pass.old course.old) steps pass.new }
     ensures holds { Holds pass.new course.new }
     ensures rows { course.new.rows ≡ course.old.rows }
 {
-    let (shape, kind, level) = (table.shape(), course.kind, course.level);
-    let number = pass.number();
-    let own = course.rows[(level - 1) as usize];
-    let row = shape.row_of(number, kind, level, own);
+    let (kind, level) = (course.kind, course.level);
+    let row = spot_of(pass, course).row + course.rows[(level - 1) as usize];
     let last = head(table, pass, kind, level);
     fill(table, pass, row, Field::Lo, at);
     fill(table, pass, row, Field::Base, base);
     fill(table, pass, row, Field::Prev, last);
     point(table, pass, kind, level, row);
     publish(table, pass, kind, level, hi);
-    course.go_to(level, Stage::Got(base, 0));
+    course.go_to(Stage::Got(base, 0));
 }

@@ -1,14 +1,17 @@
 // The words by which rows are named on the table, and their numbers at an aggregator.
 ghost use Rattle.std.specs.Prelude.{◌≡◌, ◌/◌, ◌%◌, ◌<◌, ◌≤◌, ℕ};
-ghost use Rattle.fn_layout.specs.Tree.{members, IsLevel};
-ghost use Rattle.fn_layout.specs.Words.{IsAggregator, IsSlot};
-ghost use Rattle.fn_core.specs.Machine.{local_row};
+ghost use Rattle.fn_layout.specs.Tree.{members};
+ghost use Rattle.fn_layout.specs.Words.{IsAggregator};
 ghost use Rattle.fn_core.specs.Order.{own_row};
 ghost use Rattle.fn_core.specs.Words.{row_there, link, NamesMine};
 ghost use Rattle.fn_core.specs.After.{row_read};
-ghost use Rattle.fn_climb.specs.Course.{IsLink};
+ghost use Rattle.fn_table.specs.Seen.{IsOf};
+ghost use Rattle.fn_table.specs.Spots.{spot_of};
+ghost use Rattle.fn_climb.specs.Course.{IsLink, Holds};
 
+use crate::course::Course;
 use fn_layout::{Kind, Shape};
+use fn_table::{FunnelTable, Pass, Spot};
 
 // How often one number is in another, and what is left, with no division where that is the number itself.
 #[inline(always)]
@@ -64,20 +67,31 @@ pub fn row_read(shape: Shape, word: u64) -> u64
     u64::from(member) * u64::from(shape.rows()) + rest + 1
 }
 
-/// The row of a pass that has this number at its aggregator, by its number in the layout.
-pub fn own_row(shape: Shape, pass: u32, kind: Kind, level: u32, row: u64) -> u32
-    requires { IsSlot shape pass kind level }
-    ensures { result ≡ own_row shape pass kind level row }
+/// The table's shape, which is the pass's.
+#[inline(always)]
+pub fn shape_of(table: &FunnelTable, pass: &Pass) -> Shape
+    requires together { IsOf table.now pass.now }
+    ensures { result ≡ pass.now.seen.start.shape }
 {
-    let (_, rest) = parts(row, shape.rows());
-    shape.row_of(pass, kind, level, rest as u32)
+    let _ = pass;
+    table.shape()
 }
 
-/// The number at its aggregator of a row of a pass.
-pub fn local_row(shape: Shape, level: u32, pass: u32, row: u32) -> u64
-    requires { (pass < shape.passes) × IsLevel shape level }
-    ensures { result ≡ local_row shape level pass row }
+/// Where the call's pass stands at the call's aggregator.
+#[inline(always)]
+pub fn spot_of(pass: &Pass, course: &Course) -> Spot
+    requires holds { Holds pass.now course.now }
+    ensures { result ≡ spot_of pass.now.seen.start.shape pass.now.number course.now.kind course.now.level }
 {
-    let (_, rest) = parts(u64::from(row), shape.rows());
-    u64::from(shape.member(pass, level)) * u64::from(shape.rows()) + rest
+    pass.spot(course.kind, course.level)
+}
+
+/// The row of the pass that has this number at the call's aggregator, by its number in the layout.
+pub fn own_row(table: &FunnelTable, pass: &Pass, course: &Course, row: u64) -> u32
+    requires together { IsOf table.now pass.now }
+    requires holds { Holds pass.now course.now }
+    ensures { result ≡ own_row pass.now.seen.start.shape pass.now.number course.now.kind course.now.level row }
+{
+    let (_, rest) = parts(row, shape_of(table, pass).rows());
+    spot_of(pass, course).row + rest as u32
 }

@@ -3,7 +3,7 @@ ghost use Rattle.std.specs.Prelude.{◌≡◌, ◌==◌, ◌&&◌, None, Some, f
 ghost use Rattle.fn_model.specs.Calls.{same_kind};
 ghost use Rattle.fn_rows.specs.declared.Stage.TheVariants as stage;
 ghost use Rattle.fn_table.specs.Seen.{IsOf};
-ghost use Rattle.fn_climb.specs.Course.{held_at, IsShut, Holds, pending_of};
+ghost use Rattle.fn_climb.specs.Course.{IsShut, Holds, pending_of};
 ghost use Rattle.fn_core.specs.declared.answer.CoreStep.TheVariants as told;
 ghost use Rattle.fn_climb.specs.Steps.{Advanced};
 
@@ -35,7 +35,7 @@ fn climb(table: &FunnelTable, pass: &mut Pass, course: &mut Course) -> CoreStep
     requires free { course.old.word ≡ None }
     ensures { Advanced (pending_of pass.old course.old) result pass.new course.new }
 {
-    let stage = course.held_at(course.level);
+    let stage = course.stage;
     match stage {
         Stage::Waiting(at) => look_at(table, pass, course, at),
         Stage::Shut(_, _) => {
@@ -45,7 +45,7 @@ fn climb(table: &FunnelTable, pass: &mut Pass, course: &mut Course) -> CoreStep
         Stage::Got(base, ahead) => come_down(table, pass, course, base, ahead),
         _ => {
             let next = go_on(table, pass, course, stage);
-            course.go_to(course.level, next);
+            course.go_to(next);
             CoreStep::Going
         }
     }
@@ -57,7 +57,7 @@ fn look_at(table: &FunnelTable, pass: &mut Pass, course: &mut Course, at: u64) -
     requires together { IsOf table.now pass.old }
     requires holds { Holds pass.old course.old }
     requires free { course.old.word ≡ None }
-    requires waits { held_at course.old course.old.level ≡ stage.Waiting at }
+    requires waits { course.old.stage ≡ stage.Waiting at }
     ensures { Advanced (pending_of pass.old course.old) result pass.new course.new }
 {
     let done = look(table, pass, course.kind, course.level);
@@ -65,9 +65,9 @@ fn look_at(table: &FunnelTable, pass: &mut Pass, course: &mut Course, at: u64) -
         return CoreStep::NotYet(Why::Behind { done, at });
     }
     if at == done {
-        course.go_to(course.level, Stage::Lead(at));
+        course.go_to(Stage::Lead(at));
     } else {
-        course.go_to(course.level, Stage::Late(at));
+        course.go_to(Stage::Late(at));
     }
     CoreStep::Going
 }
@@ -82,9 +82,8 @@ pub fn go_up(table: &FunnelTable, pass: &mut Pass, course: &mut Course)
     ensures { Advanced (pending_of pass.old course.old) told.Going pass.new course.new }
 {
     if course.level < table.shape().levels() {
-        let level = course.level + 1;
-        let seen = see(table, pass, course.kind, level);
-        course.go_to(level, Stage::Saw(seen));
+        let seen = see(table, pass, course.kind, course.level + 1);
+        course.rise(seen);
     } else {
         match course.kind {
             Kind::Add => if table.cap() == NO_CAP {
@@ -109,8 +108,8 @@ fn apply(table: &FunnelTable, pass: &mut Pass, course: &mut Course)
     requires uncapped { pass.old.seen.start.cap ≡ NO_CAP }
     ensures { Advanced (pending_of pass.old course.old) told.Going pass.new course.new }
 {
-    let base = apply_batch(table, pass, course.weight_at(course.level));
-    course.take_base(course.level, base);
+    let base = apply_batch(table, pass, course.weight());
+    course.take_base(base);
 }
 
 // Loads the main word, to exchange it.
@@ -135,11 +134,10 @@ fn decide(table: &FunnelTable, pass: &mut Pass, course: &mut Course, word: u64) 
     requires loaded { course.old.word ≡ Some word }
     ensures { Advanced (pending_of pass.old course.old) result pass.new course.new }
 {
-    let (kind, level) = (course.kind, course.level);
-    let weight = course.weight_at(level);
-    match exchange(table, pass, kind, weight, word) {
+    let weight = course.weight();
+    match exchange(table, pass, course.kind, weight, word) {
         Ok(()) => {
-            course.take_base(level, word);
+            course.take_base(word);
             CoreStep::Going
         }
         Err(found) => {
@@ -164,7 +162,7 @@ fn come_down(
     requires together { IsOf table.now pass.old }
     requires holds { Holds pass.old course.old }
     requires free { course.old.word ≡ None }
-    requires got { held_at course.old course.old.level ≡ stage.Got base ahead }
+    requires got { course.old.stage ≡ stage.Got base ahead }
     ensures { Advanced (pending_of pass.old course.old) result pass.new course.new }
 {
     let (kind, level) = (course.kind, course.level);
@@ -173,7 +171,6 @@ fn come_down(
     if level == 1 {
         return CoreStep::Ready(reply);
     }
-    course.go_to(level, Stage::Out);
-    course.take_base(level - 1, reply);
+    course.sink(reply);
     CoreStep::Going
 }

@@ -1,6 +1,5 @@
-use Rattle.std.proofs.Common.{◌≡◌, ◌<◌, ap, sym, ◌∙◌, arith}
+use Rattle.std.proofs.Common.{ap, arith}
 use Rattle.fn_layout.specs.declared.shape.Shape.{Shape}
-use Rattle.fn_core.specs.declared.Start.{Start}
 use Rattle.fn_climb.proofs.Scans.{of_still, idle_still}
 use Rattle.fn_climb.proofs.Levels.{level_start, level_more, level_stop, level_through}
 use Rattle.fn_climb.proofs.beginning.find_row.Goals as goal
@@ -16,18 +15,15 @@ loop-row-init c = level_start c.args.pass.now c.args.kind c.args.level _ c.numbe
 
 pub loop-row-preserved : goal.loop-row-preserved
 loop-row-preserved c =
-    let shape : c.shape.result ≡ c.args.pass.now.seen.start.shape = c.shape.ensures ∙ sym (ap (λ (b : Start). b.shape) c.requires.together.1) in
-    let less : c.loop-row.row < c.args.pass.now.seen.start.shape.rows = omega (arith, c.loop-row-test.true, c.rows-row-end.ensures, ap (λ (x : Shape). x.rows) shape) in
+    let less = rw (c.rows-row-end.ensures, c.shape_of.ensures) at c.loop-row-test.true in
     level_more c.args.pass.now c.args.kind c.args.level c.loop-row.row c.loop-row.last c.loop-row.pass c.loop-row.invariant less c.try_row.new.pass c.in-Some.blocked c.in-Some.ensures
 
 pub returns-in-None : goal.returns-in-None
 returns-in-None c =
-    let shape : c.shape.result ≡ c.args.pass.now.seen.start.shape = c.shape.ensures ∙ sym (ap (λ (b : Start). b.shape) c.requires.together.1) in
-    let less : c.loop-row.row < c.args.pass.now.seen.start.shape.rows = omega (arith, c.loop-row-test.true, c.rows-row-end.ensures, ap (λ (x : Shape). x.rows) shape) in
+    let less = rw (c.rows-row-end.ensures, c.shape_of.ensures) at c.loop-row-test.true in
     level_stop c.args.pass.now c.args.kind c.args.level c.loop-row.row c.loop-row.last c.loop-row.pass c.loop-row.invariant less c.try_row.new.pass c.in-None.ensures
 
 pub returns : goal.returns
 returns c =
-    let shape : c.shape.result ≡ c.args.pass.now.seen.start.shape = c.shape.ensures ∙ sym (ap (λ (b : Start). b.shape) c.requires.together.1) in
-    let rows = ap (λ (x : Shape). x.rows) shape in
+    let rows = ap (λ (x : Shape). x.rows) c.shape_of.ensures in
     level_through c.args.pass.now c.args.kind c.args.level c.loop-row.row c.loop-row.last c.loop-row.pass c.loop-row.invariant (omega (arith, c.loop-row-test.false, c.rows-row-end.ensures, rows)) (omega (arith, c.loop-row.auto.row-end, c.rows-row-end.ensures, rows))
