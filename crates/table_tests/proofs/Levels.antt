@@ -1,8 +1,7 @@
 -- An addition goes from stage to stage at each of its levels.
-use Rattle.std.proofs.Common.{◌≡◌, ◌≢◌, inl, inr, Bool, true, false, ℕ, zero, suc, ◌+◌, ◌-◌, ◌*◌, ◌/◌, ◌%◌, ◌≤◌, ◌<◌, ◌==◌, List, [], ◌∷◌, ◌++◌, refl, sym, ap, ◌∙◌, subst, arith}
-use Rattle.std.specs.Prelude.{if◌then◌else◌, nat_lt, nat_le}
+use Rattle.std.proofs.Common.{◌≡◌, ◌≢◌, inl, inr, Bool, ℕ, zero, suc, ◌+◌, ◌-◌, ◌*◌, ◌/◌, ◌%◌, ◌≤◌, ◌<◌, ◌==◌, List, [], ◌∷◌, ◌++◌, refl, sym, ap, ◌∙◌, subst, arith}
+use Rattle.std.specs.Prelude.{if◌then◌else◌}
 use Rattle.std.proofs.lemmas.Bool.{eq-eqb, ne_eqb, lt-ltb, le-ltb, le-leb, lt-leb}
-use Rattle.std.proofs.lemmas.Bool.Decides.{nat_tests}
 use Rattle.std.proofs.lemmas.Nat.{div-mul-add, mod-mul-add, mod_below}
 use Rattle.std.proofs.Math.Nat.{mod-eq_of_lt}
 use Rattle.running.proofs.Logs.{legal_begins}
@@ -14,8 +13,7 @@ use Rattle.fn_rows.specs.declared.Field.TheVariants.{Lo, Base, Prev}
 use Rattle.fn_rows.specs.declared.Stage.{Stage}
 use Rattle.fn_rows.specs.declared.Stage.TheVariants.{Out, Saw, Told, Waiting, Lead, Late, Shut, Based, Headed, FilledLo, FilledBase, Filled, Pointed, At, Over, Hit, Got}
 use Rattle.fn_rows.specs.Machine.{filled, looked, peeked}
-use Rattle.fn_layout.specs.declared.shape.Shape.{Shape}
-use Rattle.fn_layout.specs.Tree.{aggregator, member, IsLevel}
+use Rattle.fn_layout.specs.Tree.{aggregator, member}
 use Rattle.fn_layout.specs.Words.{IsSlot, row_number, slot_number}
 use Rattle.fn_layout.proofs.Read.{ReadsSlot, reads_slot}
 use Rattle.fn_layout.proofs.Tree.{aggregator_below}
@@ -23,15 +21,15 @@ use Rattle.fn_core.specs.declared.Start.{Start}
 use Rattle.fn_core.specs.declared.Move.{Move}
 use Rattle.fn_core.specs.declared.Move.TheVariants.{See, Announce, Arrive, Look, Close, Apply, Head, Fill, Point, Publish, Peek, Leave}
 use Rattle.fn_core.specs.declared.Position.{Position}
-use Rattle.fn_core.specs.declared.Position.TheVariants.{Climbing, Resting}
+use Rattle.fn_core.specs.declared.Position.TheVariants.{Climbing}
 use Rattle.fn_core.specs.State.{State, hi_of, lo_of, reply_of}
 use Rattle.fn_core.specs.Machine.{local_row, no_cap, HasFreeRow, MayArrive, MaySee, MayPeek, MayPoint, Names, weight_of, word_of}
 use Rattle.fn_core.specs.Words.{Own, link, fill_word, filled_word}
 use Rattle.fn_core.specs.After.{own_after, put_level, in_stage, in_position, out_of, told_stage, looked_stage, closed_stage, based_stage, headed_stage, pointed_stage, published_stage, peeked_stage, arrived_own, based_own, filled_own, peeked_own, left_own, row_read}
-use Rattle.fn_core.specs.Calls.{IsLegal, IsIdle, left_of, state_in}
+use Rattle.fn_core.specs.Calls.{IsLegal, left_of, state_in}
 use Rattle.fn_core.proofs.Public.{row_read-link, last_mine}
 use Rattle.fn_table.specs.Funnel.{funnel}
-use Rattle.fn_table.specs.Seen.{TableView, PassView, IsOf, May, Stepped, own_of, event, with_log}
+use Rattle.fn_table.specs.Seen.{TableView, PassView, May, Stepped, own_of, event, with_log}
 use Rattle.fn_table.specs.Standing.{IsNumbered}
 use Rattle.fn_table.proofs.FunnelLaws.{logs_are_legal}
 use Rattle.fn_table.proofs.States.{is_legal}

@@ -44,7 +44,12 @@ fn is_new(table: &FunnelTable, pass: &Pass) -> bool
 }
 
 // An addition begins: what the pass saw at its leaf, and its offset there.
-fn begin(table: &FunnelTable, pass: &mut Pass, number: u32, amount: u64) -> Option<(u64, u64)>
+pub(crate) fn begin(
+    table: &FunnelTable,
+    pass: &mut Pass,
+    number: u32,
+    amount: u64,
+) -> Option<(u64, u64)>
     requires rests { IsNumbered table.now pass.old number }
     ensures waits { IfSome result (λ r. Stands table.now number pass.new 1 (Waiting r.1) []) }
 {
@@ -118,7 +123,7 @@ fn waits(
 }
 
 // The call leads, and closes its batch: the end.
-fn lead(
+pub(crate) fn lead(
     table: &FunnelTable,
     pass: &mut Pass,
     number: u32,
@@ -139,7 +144,7 @@ fn lead(
 }
 
 // The batch of the last level enters the main word: its base.
-fn apply(
+pub(crate) fn apply(
     table: &FunnelTable,
     pass: &mut Pass,
     number: u32,
@@ -318,7 +323,7 @@ fn descend(
 }
 
 // The batch of a leaf is published, and the call ends: what `last` was.
-fn end_at_leaf(
+pub(crate) fn end_at_leaf(
     table: &FunnelTable,
     pass: &mut Pass,
     number: u32,

@@ -1,16 +1,13 @@
-ghost use Rattle.std.specs.Prelude.{◌≡◌, IfOk, IfSome};
-ghost use Rattle.fn_model.specs.declared.Kind.TheVariants.{Add};
-ghost use Rattle.fn_model.specs.declared.TheConstants.{NO_CAP};
-ghost use Rattle.fn_rows.specs.declared.Stage.TheVariants.{Waiting, Based, Filled};
-ghost use Rattle.fn_layout.specs.Words.{row_number};
-ghost use Rattle.fn_core.specs.Machine.{local_row};
-ghost use Rattle.fn_table.specs.Standing.{StandsAt};
+ghost use Rattle.std.specs.Prelude.{◌≡◌, [], IfOk, IfSome};
+ghost use Rattle.fn_rows.specs.declared.Stage.TheVariants.{Waiting, Based};
 ghost use Rattle.fn_core.specs.Calls.{IsIdle};
 ghost use Rattle.fn_table.specs.Seen.{IsOf, AreOpened};
 ghost use Rattle.fn_table.specs.Standing.{IsNumbered};
+ghost use Rattle.table_tests.specs.Levels.{Stands};
 
+use crate::more_levels::{apply, begin, end_at_leaf, lead};
 use fn_core::OpenFault;
-use fn_layout::{Field, Kind, Shape};
+use fn_layout::{Kind, Shape};
 use fn_model::NO_CAP;
 use fn_table::*;
 use std::alloc::{AllocError, Global};
@@ -127,76 +124,14 @@ fn add_many(table: &FunnelTable, mut pass: Pass, times: u64) -> (u64, Pass)
     (sum, pass)
 }
 
-// An addition of this amount begins: what the pass saw, and its offset.
-fn begin(table: &FunnelTable, pass: &mut Pass, amount: u64, row: u32) -> Option<(u64, u64)>
-    requires together { IsOf table.now pass.old }
-    requires idle { IsIdle pass.old.seen pass.old.number }
-    requires row { row ≡ row_number pass.old.seen.start.shape pass.old.number Add 1 0 }
-    requires level { table.now.start.shape.levels ≡ 1 }
-    ensures number { pass.new.number ≡ pass.old.number }
-    ensures waits { IfSome result (λ r. StandsAt table.now pass.new row (Waiting r.1)) }
+// Where an addition leads at its leaf at once, its batch is closed and applied: its end, and its base.
+fn lead_and_apply(table: &FunnelTable, pass: &mut Pass, number: u32, at: u64) -> Option<(u64, u64)>
+    requires waits { Stands table.now number pass.old 1 (Waiting at) [] }
+    ensures based { IfSome result (λ r. Stands table.now number pass.new 1 (Based at r.0 r.1) []) }
 {
-    let _number = pass.number();
-    let used = pass.row_end(table, Kind::Add, 1, 0);
-    if amount < 1 {
-        return None;
-    }
-    if used != 0 {
-        return None;
-    }
-    let seen = see(table, pass, Kind::Add, 1);
-    announce(table, pass, Kind::Add, 1, seen);
-    let left = pass.allowance();
-    if left < amount {
-        return None;
-    }
-    let at = arrive(table, pass, Kind::Add, 1, amount);
-    Some((seen, at))
-}
-
-// Where it leads at once, its batch is closed and applied: its end, and its base.
-fn lead(table: &FunnelTable, pass: &mut Pass, at: u64, row: u32) -> Option<(u64, u64)>
-    requires waits { StandsAt table.now pass.old row (Waiting at) }
-    requires level { table.now.start.shape.levels ≡ 1 }
-    requires cap { table.now.start.cap ≡ NO_CAP }
-    ensures number { pass.new.number ≡ pass.old.number }
-    ensures based { IfSome result (λ r. StandsAt table.now pass.new row (Based at r.0 r.1)) }
-{
-    let done = look(table, pass, Kind::Add, 1);
-    if done != at {
-        return None;
-    }
-    let end = close_batch(table, pass, Kind::Add, 1);
-    let base = apply_batch(table, pass, end.saturating_sub(at));
+    let end = lead(table, pass, number, 1, at, &[])?;
+    let base = apply(table, pass, number, 1, (at, end), &[])?;
     Some((end, base))
-}
-
-// Its row is filled.
-fn fill_row(table: &FunnelTable, pass: &mut Pass, at: u64, end: u64, base: u64, row: u32) -> u64
-    requires based { StandsAt table.now pass.old row (Based at end base) }
-    requires row { row ≡ row_number pass.old.seen.start.shape pass.old.number Add 1 0 }
-    ensures same { (pass.new.number ≡ pass.old.number) × (pass.new.seen.start ≡ pass.old.seen.start) }
-    ensures filled { StandsAt table.now pass.new row (Filled at end base (local_row pass.new.seen.start.shape 1 pass.new.number row)) }
-{
-    let link = head(table, pass, Kind::Add, 1);
-    fill(table, pass, row, Field::Lo, at);
-    fill(table, pass, row, Field::Base, base);
-    fill(table, pass, row, Field::Prev, link);
-    link
-}
-
-// Its batch is published, and the call ends.
-fn finish(table: &FunnelTable, pass: &mut Pass, at: u64, end: u64, base: u64, row: u32)
-    requires filled { StandsAt table.now pass.old row (Filled at end base (local_row pass.old.seen.start.shape 1 pass.old.number row)) }
-    requires row { row ≡ row_number pass.old.seen.start.shape pass.old.number Add 1 0 }
-    ensures together { IsOf table.now pass.new }
-    ensures number { pass.new.number ≡ pass.old.number }
-    ensures idle { IsIdle pass.new.seen pass.new.number }
-{
-    let _ = (at, base);
-    point(table, pass, Kind::Add, 1, row);
-    publish(table, pass, Kind::Add, 1, end);
-    leave(table, pass, Kind::Add, 1);
 }
 
 // A whole addition of a pass that leads at once: what it saw, its offset, its end, its base, and what `last` was.
@@ -210,20 +145,9 @@ fn whole_call(
     ensures { IfSome result (λ _. IsOf table.now pass.new × (pass.new.number ≡ pass.old.number) × IsIdle pass.new.seen pass.new.number) }
 {
     let number = pass.number();
-    let shape = table.shape();
-    let levels = shape.levels();
-    if levels != 1 {
-        return None;
-    }
-    let cap = table.cap();
-    if cap != NO_CAP {
-        return None;
-    }
-    let row = shape.row_of(number, Kind::Add, 1, 0);
-    let (seen, at) = begin(table, pass, amount, row)?;
-    let (end, base) = lead(table, pass, at, row)?;
-    let link = fill_row(table, pass, at, end, base, row);
-    finish(table, pass, at, end, base, row);
+    let (seen, at) = begin(table, pass, number, amount)?;
+    let (end, base) = lead_and_apply(table, pass, number, at)?;
+    let link = end_at_leaf(table, pass, number, (at, end), base)?;
     Some((seen, at, end, base, link))
 }
 
@@ -304,12 +228,10 @@ fn a_batch_holds_two_calls(rt: HostRuntime) -> Result<(), Fail> {
         && let Ok((table, passes)) = FunnelTable::open(rt.alloc(), shape, 10, &[5, 7])
         && let Some((mut first, mut second)) = two_passes(&table, passes)
     {
-        let row = shape.row_of(0, Kind::Add, 1, 0);
-        let other = shape.row_of(1, Kind::Add, 1, 0);
-        if let Some((0, at)) = begin(&table, &mut first, 5, row) {
+        if let Some((0, at)) = begin(&table, &mut first, 0, 5) {
             assert_eq!(rt; at, 0);
-            assert_eq!(rt; begin(&table, &mut second, 7, other), Some((0, 5)));
-            assert_eq!(rt; lead(&table, &mut first, at, row), Some((12, 10)));
+            assert_eq!(rt; begin(&table, &mut second, 1, 7), Some((0, 5)));
+            assert_eq!(rt; lead_and_apply(&table, &mut first, 0, at), Some((12, 10)));
             assert_eq!(rt; first.allowance(), 0);
             return Ok(());
         }

@@ -1,5 +1,4 @@
 use Rattle.std.proofs.Common.{ℕ, ◌<◌, [], subst, arith}
-use Rattle.fn_table.specs.Seen.{PassView}
 use Rattle.table_tests.proofs.Levels.{at_saw_leaf, at_told, at_waiting, may_begin, may_announce, may_arrive_leaf}
 use Rattle.table_tests.proofs.more_levels.begin.Goals as goal
 

@@ -1,5 +1,5 @@
 use Rattle.std.proofs.Common.{arith}
-use Rattle.table_tests.proofs.Levels.{may_look, at_looked, waits_still}
+use Rattle.table_tests.proofs.Levels.{at_looked, waits_still}
 use Rattle.table_tests.proofs.more_levels.waits.Goals as goal
 
 pub returns : goal.returns
