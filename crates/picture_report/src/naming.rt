@@ -9,7 +9,8 @@ use trace_text::Tenant;
 /// The number of the first tenant with a name.
 pub fn tenant_named(trace: &Trace, name: &[u8]) -> Option<u32>
     requires { length trace.now.tenants.items ≤ 256 }
-    ensures { result ≡ position (λ tenant. bytes_eq tenant.name name.now) trace.now.tenants.items }
+    ensures exact { result ≡ position (λ tenant. bytes_eq tenant.name name.now) trace.now.tenants.items }
+    ensures within { IfSome result (λ number. number < length trace.now.tenants.items) }
 {
     match place_of(&trace.tenants, name) {
         Some(place) => Some(place as u32),
