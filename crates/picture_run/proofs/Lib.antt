@@ -1,3 +1,4 @@
 pub mod Drawing
 pub mod Faults
+pub mod Names
 pub mod TenantLines

@@ -8,6 +8,7 @@ use Rattle.trace_text.specs.Records.{records_of}
 use Rattle.trace_text.specs.Trace.{Content}
 use Rattle.trace_text.specs.TraceGrammar.{IsTrace}
 use Rattle.trace_text.specs.TraceLaws.{IsFirstFault}
+use Rattle.picture_xml.specs.Xml.{IsElement}
 use Rattle.picture_run.specs.Asked.{workers_of}
 use Rattle.picture_run.specs.Streams.{BreaksOff, Input, IsLong, Output, ReadsAll, ReadsNothing, Writes, WritesNothing}
 use Rattle.picture_run.specs.Texts.{IsReportOf, Shows, number_of}
@@ -42,10 +43,15 @@ IsRefused picture trace report ByReport = (t : Content) × (bytes : List ℕ) ×
 IsRefused picture trace report ByTenant =
     (t : Content) × (answers : List Moved) × (finals : List ℕ) × HasTrace picture trace t × HasReport report t answers finals × IsMissing picture t
 
+-- a drawing is well-formed: one XML element
+abbrev pub IsWell : Picture → List ℕ → Type 0
+IsWell (Lines workers) text = Unit {0}
+IsWell (Drawing workers name) text = IsElement text
+
 -- the text of a picture, from the trace and the report that were read
 abbrev pub Draws : Picture → Input → Input → List ℕ → Type 0
 Draws picture trace report text =
-    (t : Content) × (answers : List Moved) × (finals : List ℕ) × HasTrace picture trace t × HasReport report t answers finals × Shows picture t answers finals text
+    (t : Content) × (answers : List Moved) × (finals : List ℕ) × HasTrace picture trace t × HasReport report t answers finals × Shows picture t answers finals text × IsWell picture text
 
 -- how a run ends that has no text
 abbrev pub Stops : Option Picture → Input → Input → Ending → Type 0

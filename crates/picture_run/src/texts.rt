@@ -1,11 +1,11 @@
 //! The text of a picture, from a trace and its report.
-ghost use Rattle.std.specs.Prelude.{◌≡◌, ◌<◌, ◌≤◌, IfOk, IfSome, length};
+ghost use Rattle.std.specs.Prelude.{◌≡◌, ◌<◌, ◌≤◌, IfOk, length};
 ghost use Rattle.std.specs.List.{All};
 ghost use Rattle.picture_report.specs.Told.{IsSmall};
 ghost use Rattle.replay_report.specs.Report.{HasAnswers};
 ghost use Rattle.trace_text.specs.Trace.{content};
 ghost use Rattle.picture_run.specs.Telling.{IsShown};
-ghost use Rattle.picture_run.specs.Texts.{drawing_text, lines_text, number_of};
+ghost use Rattle.picture_run.specs.Texts.{drawing_text, lines_text};
 
 use crate::ending::{Ending, Refusal};
 use crate::words::Picture;
@@ -33,7 +33,7 @@ pub fn picture_text(
             Ok(text) => Ok(text),
             Err(_) => Err(Ending::NoMemory),
         },
-        Picture::Drawing { workers, tenant } => match number_of(trace, &tenant.items) {
+        Picture::Drawing { workers, tenant } => match tenant_named(trace, &tenant.items) {
             Some(number) => match drawing_text(
                 alloc,
                 *workers,
@@ -48,15 +48,6 @@ pub fn picture_text(
             None => Err(Ending::Refused(Refusal::ByTenant)),
         },
     }
-}
-
-// The number of the tenant with a name.
-fn number_of(trace: &Trace, name: &[u8]) -> Option<u32>
-    requires { length trace.now.tenants.items ≤ 256 }
-    ensures exact { result ≡ number_of name.now trace.now.tenants.items }
-    ensures within { IfSome result (λ number. number < length trace.now.tenants.items) }
-{
-    tenant_named(trace, name)
 }
 
 // The line of each tenant.
