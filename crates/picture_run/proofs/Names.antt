@@ -1,8 +1,9 @@
 -- Each tenant of a trace has a name, so that the drawing of one is well-formed.
-use Rattle.std.proofs.Common.{◌≡◌, ℕ, Bool, true, false, List, [], ◌∷◌, length, Some, get_or, refl, sym, ap, ◌∙◌, subst}
+use Rattle.std.proofs.Common.{◌≡◌, ℕ, true, List, [], ◌∷◌, length, Some, get_or, sym, ap, ◌∙◌, subst}
 use Rattle.std.specs.List.{All, list_all}
 use Rattle.std.specs.Str.{bytes_eq}
 use Rattle.std.specs.Prelude.{◌&&◌, ◌+◌, nat_lt, nat_le}
+use Rattle.std.proofs.lemmas.Bool.{and_parts}
 use Rattle.std.proofs.lemmas.List.Elements.{All-nil, All-push}
 use Rattle.std.proofs.lemmas.List.Quantifiers.{position-Some}
 use Rattle.std.proofs.lemmas.Slice.Eq.{bytes_eq-Decides}
@@ -46,11 +47,6 @@ all_named format workers at (row ∷ rest) before after (next, says, more) named
 names : (workers : ℕ) (records : List (List (List ℕ))) (t : Content) → IsTrace workers records t → HaveNames t
 names workers records t is = all_named is.format workers 1 is.rest nothing t is.said (All-nil HasName)
 
-both : (a b : Bool) → (a && b) ≡ true → b ≡ true
-both true b h = h
-both false true h = refl
-both false false h = h
-
 -- the name that a tenant is found by is its name
 found_name : (name : List ℕ) (t : Content) (number : ℕ) → HaveNames t → number_of name t.tenants ≡ Some number → list_all is_name_byte name ≡ true
 found_name name t number named found =
@@ -58,7 +54,7 @@ found_name name t number named found =
     let at = position-Some (λ (tenant : Tenant). bytes_eq tenant.name name) t.tenants number none found in
     let same : (get_or t.tenants number none).name ≡ name = (bytes_eq-Decides (get_or t.tenants number none).name name).0 at.1 in
     let whole : is_name name ≡ true = ap is_name (sym same) ∙ named number none at.0 in
-    both (nat_lt 0 (length name) && nat_le (length name) 32) (list_all is_name_byte name) whole
+    (and_parts (nat_lt 0 (length name) && nat_le (length name) 32) (list_all is_name_byte name) whole).1
 
 -- what is shown of a trace is well-formed, where it is a drawing
 pub shown_well : (picture : Picture) (workers : ℕ) (records : List (List (List ℕ))) (t : Content) (answers : List Moved) (finals text : List ℕ) → IsTrace workers records t → Shows picture t answers finals text → IsWell picture text

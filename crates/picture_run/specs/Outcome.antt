@@ -1,5 +1,6 @@
 -- How a run ends, by what it read and wrote.
 --     Draws picture trace report text      the text of a picture, from the trace and the report that were read
+--     IsWell picture text      a drawing is well-formed
 --     IsRefused picture trace report why      why input is refused
 --     Ends asked trace report output ending      what each ending means
 use Rattle.std.specs.Prelude.{◌≡◌, ◌⊎◌, ℕ, List, Option, Some, None}
