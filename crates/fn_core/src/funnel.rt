@@ -339,6 +339,3 @@ fn exchange_told(answer: Answer) -> CoreStep
         _ => CoreStep::Going,
     }
 }
-
-#[cfg(test)]
-mod tests;

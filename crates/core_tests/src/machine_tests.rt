@@ -1,5 +1,4 @@
-use super::*;
-use crate::answer::CoreBegun;
+use fn_core::{Answer, Core, CoreBegun, CoreStep, Event, Kind, Move, Shape};
 use std::test::Fail;
 
 #[test]
@@ -28,19 +27,19 @@ fn a_cap_is_kept_and_the_laws_are_called(rt: HostRuntime) -> Result<(), Fail> {
     let mut core = Core::new_capped(rt.alloc(), &shape, 8, 10, &[20])?;
     assert_eq!(rt; core.own(0, Kind::Add, 5)?, 8);
     assert_eq!(rt; core.main(), 10);
-    crate::replies_are_right();
-    crate::main_is_value();
-    crate::words_are_small();
-    crate::batches_follow();
-    crate::arrivals_have_offsets();
-    crate::one_step_for_a_tree();
-    crate::entries_stay();
-    crate::rows_are_kept();
-    crate::own_calls_are_in_order();
-    crate::events_are_local();
-    crate::steps_tell();
-    crate::calls_go_on();
-    crate::logs_go_on();
-    crate::orders_leave();
+    fn_core::replies_are_right();
+    fn_core::main_is_value();
+    fn_core::words_are_small();
+    fn_core::batches_follow();
+    fn_core::arrivals_have_offsets();
+    fn_core::one_step_for_a_tree();
+    fn_core::entries_stay();
+    fn_core::rows_are_kept();
+    fn_core::own_calls_are_in_order();
+    fn_core::events_are_local();
+    fn_core::steps_tell();
+    fn_core::calls_go_on();
+    fn_core::logs_go_on();
+    fn_core::orders_leave();
     Ok(())
 }
