@@ -1,7 +1,6 @@
 -- What a call keeps and finds while it climbs, after every legal log.
-use Rattle.std.proofs.Common.{◌≡◌, inl, inr, ℕ, ◌≤◌, ◌<◌, List, sym, subst}
+use Rattle.std.proofs.Common.{◌≡◌, inl, inr, ℕ, ◌≤◌, List, sym, subst}
 use Rattle.fn_model.specs.declared.Kind.{Kind}
-use Rattle.fn_rows.specs.declared.Stage.{Stage}
 use Rattle.fn_rows.specs.declared.Stage.TheVariants.{FilledBase}
 use Rattle.fn_rows.specs.Trace.{Traced}
 use Rattle.fn_rows.proofs.Invariant.{Inv, Leading, IsOurs}

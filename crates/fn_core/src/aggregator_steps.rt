@@ -22,13 +22,14 @@ impl Machine {
     ghost use Rattle.fn_core.specs.Fields.{MayTake, Takes};
 
     /// Loads the announcement of another pass.
+    #[inline(always)]
     pub fn scan(&mut self, pass: u32, kind: Kind, level: u32, other: u32) -> Answer
         requires { MayTake self.old pass (Scan kind level other) }
         ensures start { self.new.start ≡ self.old.start }
         ensures takes { Takes self.old self.new pass (Scan kind level other) result }
     {
         let (place, member) = self.seat(pass, kind, level);
-        let (_, scanned) = self.seat(other, kind, level);
+        let scanned = self.start.shape.member(other, level);
         Answer::Word(self.rows[place].scan(member, scanned))
     }
 

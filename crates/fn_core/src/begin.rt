@@ -2,8 +2,8 @@
 
 ghost use Rattle.std.specs.Prelude.{◌≡◌, ◌≢◌, ◌-◌, ◌+◌, ◌*◌, ◌<◌, ◌≤◌, ◌++◌, List, length, IfOk, IfErr, ℕ, suc, None, Some, if◌then◌else◌, option_map};
 ghost use Rattle.fn_model.specs.declared.Kind.{Kind};
-ghost use Rattle.fn_layout.specs.Tree.{IsLevel};
-ghost use Rattle.fn_layout.specs.Words.{IsSlot, Announcement};
+ghost use Rattle.fn_layout.specs.Tree.{IsLevel, aggregator};
+ghost use Rattle.fn_layout.specs.Words.{IsSlot, Announcement, aggregator_number};
 ghost use Rattle.fn_core.specs.declared.Event.{Event};
 ghost use Rattle.fn_core.specs.declared.answer.CoreBegun.TheVariants.{Waiting, NoRow};
 ghost use Rattle.fn_core.specs.declared.answer.Blocked.{Blocked};
@@ -151,13 +151,15 @@ impl Machine {
         if end == 0 {
             return Ok(None);
         }
+        let index = self.start.shape.aggregator_of(pass, level);
+        let (place, _) = self.seat(pass, kind, level);
         for other in 0..self.start.shape.passes() {
-            if !self.is_other(level, pass, other) {
+            if !self.is_other(level, index, pass, other) {
                 continue;
             }
             let step = Move::Scan { kind, level, other };
             events.push(Event { pass, step })?;
-            let word = self.announced(other, kind, level);
+            let word = self.announced(place, other, kind, level);
             if !lets(word, end) {
                 return Ok(Some(Blocked {
                     level,
@@ -170,14 +172,15 @@ impl Machine {
         Ok(None)
     }
 
-    // Whether a pass is another one of the pass's aggregator.
-    fn is_other(&self, level: u32, pass: u32, other: u32) -> bool
+    // Whether a pass is another one of the pass's aggregator, which has this index.
+    #[inline(always)]
+    fn is_other(&self, level: u32, index: u32, pass: u32, other: u32) -> bool
         requires level { IsLevel self.now.start.shape level }
-        requires in_range { (pass < self.now.start.shape.passes) × (other < self.now.start.shape.passes) }
+        requires index { index ≡ aggregator self.now.start.shape pass level }
+        requires in_range { other < self.now.start.shape.passes }
         ensures { result ≡ is_other self.now.start.shape level pass other }
     {
-        let shape = self.start.shape;
-        shape.aggregator_of(other, level) == shape.aggregator_of(pass, level) && other != pass
+        self.start.shape.aggregator_of(other, level) == index && other != pass
     }
 
     // The end of the batch that the pass's row held last, or 0.
@@ -191,13 +194,15 @@ impl Machine {
         self.rows[place].end(self.local_row(pass, level, row))
     }
 
-    // The pass's announcement: the number that it has announced plus 1, or 0.
-    fn announced(&self, pass: u32, kind: Kind, level: u32) -> u64
+    // The pass's announcement at its aggregator, which stands at this place: the number that it has announced plus 1, or 0.
+    #[inline(always)]
+    fn announced(&self, place: usize, pass: u32, kind: Kind, level: u32) -> u64
         requires slot { IsSlot self.now.start.shape pass kind level }
+        requires place { place ≡ aggregator_number self.now.start.shape kind level (aggregator self.now.start.shape pass level) }
         requires reached { HasTaken self.now }
         ensures { (s : State) → Mirrors self.now s → result ≡ word self.now.start s (Announcement pass kind level) }
     {
-        let (place, member) = self.seat(pass, kind, level);
+        let member = self.start.shape.member(pass, level);
         self.rows[place].announced(member)
     }
 }

@@ -31,6 +31,7 @@ impl Machine {
     ghost use Rattle.fn_core.specs.Fields.{HasTaken, InEach, MayTake, Takes};
 
     // The number of the pass's aggregator, and the pass's number among its members.
+    #[inline(always)]
     pub(crate) fn seat(&self, pass: u32, kind: Kind, level: u32) -> (usize, u32)
         requires { IsSlot self.now.start.shape pass kind level }
         ensures place { result.0 ≡ aggregator_number self.now.start.shape kind level (aggregator self.now.start.shape pass level) }
