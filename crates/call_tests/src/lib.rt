@@ -2,6 +2,8 @@
 #![tactic(auto)]
 
 #[cfg(test)]
+mod caller_tests;
+#[cfg(test)]
 mod climb_tests;
 #[cfg(test)]
 mod direct_tests;

@@ -8,6 +8,3 @@ mod opening;
 
 pub use caller::{Caller, Reason};
 pub use opening::{OpenFault, open};
-
-#[cfg(test)]
-mod tests;

@@ -98,6 +98,7 @@ impl RowState {
     }
 
     /// Where the member stands.
+    #[inline(always)]
     pub fn stage(&self, member: u32) -> Stage
         requires { member < self.now.members }
         ensures { result ≡ (state_of self.now).stage member }
@@ -106,6 +107,7 @@ impl RowState {
     }
 
     /// The number that the member has announced plus 1, or 0.
+    #[inline(always)]
     pub fn announced(&self, member: u32) -> u64
         requires { member < self.now.members }
         ensures { result ≡ (state_of self.now).announced member }
@@ -114,6 +116,7 @@ impl RowState {
     }
 
     /// The end of the batch that was published last in this row, or 0.
+    #[inline(always)]
     pub fn end(&self, row: u32) -> u64
         requires { row < self.now.members * self.now.rows }
         ensures { result ≡ (state_of self.now).end row }
@@ -298,6 +301,7 @@ impl RowState {
     }
 
     /// Gives the announcement of another member, and keeps it for the member's next fill.
+    #[inline(always)]
     pub fn scan(&mut self, member: u32, other: u32) -> u64
         requires { May self.old (Scan member other) }
         ensures step { Steps self.old self.new (Scan member other) }

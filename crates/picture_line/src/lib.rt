@@ -6,6 +6,3 @@ mod lines;
 
 pub use bars::MOST_BARS;
 pub use lines::line_text;
-
-#[cfg(test)]
-mod tests;

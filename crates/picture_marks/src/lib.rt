@@ -6,6 +6,3 @@ mod measures;
 
 pub use marks::{Heading, Mark, columns, columns_laws, run_length};
 pub use measures::{bounds_laws, greatest, least, scale_laws, scaled, shares, shares_laws, top_of};
-
-#[cfg(test)]
-mod tests;

@@ -12,6 +12,3 @@ pub use naming::tenant_named;
 pub use picture_marks::{Heading, Mark};
 pub use reading::{Report, ReportFault, read_report};
 pub use replay_report::{Moved, NoMemory, Trace};
-
-#[cfg(test)]
-mod tests;

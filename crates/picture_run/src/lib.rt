@@ -14,6 +14,3 @@ pub use runs::run;
 pub use streams::tell;
 pub use trace_text::{Name, TraceFault};
 pub use words::{Picture, read_words, trace_path};
-
-#[cfg(test)]
-mod tests;

@@ -6,9 +6,8 @@ mod drawing;
 mod frame;
 mod heading;
 mod shapes;
-#[cfg(test)]
-mod tests;
 
 pub use drawing::svg_text;
+pub use heading::STYLE;
 pub use picture_marks::{Heading, Mark};
 pub use text_lines::NoMemory;

@@ -2,8 +2,6 @@
 #![tactic(auto)]
 
 mod pieces;
-#[cfg(test)]
-mod tests;
 
 pub use pieces::{
     push_attribute, push_close_tag, push_element, push_number, push_number_attribute,

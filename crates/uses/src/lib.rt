@@ -13,6 +13,3 @@ pub use handing::hand_over;
 pub use lines::lengths;
 pub use quota::{Lent, lend_at_once};
 pub use ranges::two_ranges;
-
-#[cfg(test)]
-mod tests;

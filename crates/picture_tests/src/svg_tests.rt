@@ -1,5 +1,4 @@
-use super::*;
-use crate::heading::STYLE;
+use picture_svg::{Heading, Mark, STYLE, svg_text};
 use std::alloc::{AllocError, Global};
 use std::test::Fail;
 

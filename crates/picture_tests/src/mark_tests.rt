@@ -1,4 +1,7 @@
-use super::*;
+use picture_marks::{
+    Heading, Mark, bounds_laws, columns, columns_laws, greatest, least, run_length, scale_laws,
+    scaled, shares, shares_laws, top_of,
+};
 use std::test::Fail;
 
 // Five rows of three workers.

@@ -1,4 +1,7 @@
-use super::*;
+use picture_report::{
+    Heading, Mark, ReportFault, heading_of, headings_of, marks_by_tenant, marks_of, read_report,
+    tenant_named,
+};
 use std::test::Fail;
 use trace_text::read_trace;
 

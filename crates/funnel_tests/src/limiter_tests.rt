@@ -5,7 +5,7 @@ ghost use Rattle.fn_table.specs.Seen.{AreOpened, IsOf};
 ghost use Rattle.fn_table.specs.Standing.{IsNumbered};
 ghost use Rattle.fn_table.specs.Claims.{left, Made, Rests};
 
-use super::super::*;
+use fn_future::{AddFuture, FunnelTable, Pass};
 use fn_layout::Shape;
 use futures::Future;
 use futures::executor::block_on;

@@ -1,4 +1,7 @@
-use super::*;
+use picture_xml::{
+    push_attribute, push_close_tag, push_element, push_number, push_number_attribute,
+    push_open_tag, push_sum,
+};
 use std::test::Fail;
 
 #[test]

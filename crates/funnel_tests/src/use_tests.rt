@@ -1,5 +1,5 @@
-use super::*;
 use std::test::*;
+use uses::{count_at_once, hand_over, lend_at_once, lengths, two_ranges};
 
 #[test]
 fn the_counter_has_all(rt: HostRuntime) -> Result<(), Fail> {

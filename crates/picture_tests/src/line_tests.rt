@@ -1,4 +1,4 @@
-use super::*;
+use picture_line::line_text;
 use picture_marks::{Heading, Mark};
 use std::test::Fail;
 

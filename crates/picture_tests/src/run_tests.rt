@@ -1,6 +1,6 @@
-use super::*;
 use edge_io::{MemSink, MemSource};
 use picture_marks::{Heading, Mark};
+use picture_run::{TRACE_LIMIT, run};
 use picture_svg::svg_text;
 use std::alloc::{AllocGlobal, Global};
 use std::process::Abort;

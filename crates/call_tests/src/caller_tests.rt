@@ -1,4 +1,4 @@
-use super::*;
+use fn_callers::{Caller, OpenFault, Reason, open};
 use fn_model::NO_CAP;
 use std::alloc::Global;
 use std::test::*;
