@@ -23,7 +23,7 @@ use Rattle.fn_core.proofs.Public.{row_read-link, last_mine}
 use Rattle.fn_table.specs.Seen.{PassView, May, Stepped, own_of, with_log}
 use Rattle.fn_table.specs.declared.spots.Spot.{Spot}
 use Rattle.fn_table.specs.Spots.{spot_of}
-use Rattle.fn_table.proofs.Published.{row_follows}
+use Rattle.fn_layout.proofs.Rows.{row_follows}
 use Rattle.fn_climb.specs.declared.course.Course.{Course}
 use Rattle.fn_climb.specs.Course.{at_stage, chosen_at, Holds, pending_of}
 use Rattle.fn_climb.specs.Steps.{Advanced}
@@ -86,7 +86,7 @@ module _ {p : PassView} {c : Course} (h : Holds p c) (free : c.word ≡ None) wh
 
       row1 : row ≡ by_local q1.seen.start.shape q1.number
       row1 =
-          row_follows shape p.number c.kind c.level chosen spot.row (ap (λ (x : Spot). x.row) there)
+          row_follows shape p.number c.kind c.level chosen (ap (λ (x : Spot). x.row) there)
           ∙ ap (row_number shape p.number c.kind c.level) (sym (mod-mul-add (member shape c.level p.number) shape.rows chosen (based_few is)))
           ∙ sym (still (λ s k. own_row s k c.kind c.level (member s c.level k * s.rows + chosen)) t1)
 

@@ -33,7 +33,7 @@ use Rattle.fn_core.proofs.Public.{found_last_is_mine, hand_owned, rows_have_name
 use Rattle.fn_table.specs.Seen.{PassView, May, Stepped, own_of, with_log}
 use Rattle.fn_table.specs.declared.spots.Spot.{Spot}
 use Rattle.fn_table.specs.Spots.{spot_of}
-use Rattle.fn_table.proofs.Published.{row_follows}
+use Rattle.fn_layout.proofs.Rows.{row_follows}
 use Rattle.fn_climb.specs.declared.course.Course.{Course}
 use Rattle.fn_climb.specs.Next.{in_kept_row, IsNext}
 use Rattle.fn_climb.specs.Course.{batch_below, weight_below, goes_on, has_row, walks, peek_of, chosen_at, IsLink, Holds, Moved, pending_of}
@@ -52,7 +52,7 @@ module _ {p : PassView} {c : Course} (h : Holds p c) where
   pub row_fits : {n : ℕ} {spot : Spot} → n < p.seen.start.shape.rows → spot ≡ spot_of p.seen.start.shape p.number c.kind c.level → spot.row + n < 3072
   row_fits {n} {spot} few at =
       let shape : Shape = p.seen.start.shape in
-      let follows = row_follows shape p.number c.kind c.level n spot.row (ap (λ (x : Spot). x.row) at) in
+      let follows = row_follows shape p.number c.kind c.level n (ap (λ (x : Spot). x.row) at) in
       omega (arith, follows, row_number_below shape p.number c.kind c.level n (slot h) few, all_rows_le shape)
 
   module _ (free : c.word ≡ None) where

@@ -8,7 +8,7 @@ ghost use Rattle.fn_layout.specs.Laws.{NamesAreRead, NumbersAreNamed, NamesAreDi
 
 pub use fn_model::Kind;
 pub use fn_rows::Field;
-pub use shape::{Shape, ShapeFault};
+pub use shape::{Shape, ShapeFault, field_number};
 pub use workers::shape_for;
 
 /// Each word has one name and one number, and the numbers are those below the number of words.

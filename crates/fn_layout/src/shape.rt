@@ -164,8 +164,24 @@ impl Shape {
             + (remainder(pass, self.leaves) - first)
     }
 
-    /// The pass with this number among the passes of an aggregator.
+    /// The pass with this number among the passes of an aggregator; at a leaf it is found with no division.
+    #[inline(always)]
     pub fn pass_of(self, level: u32, index: u32, number: u32) -> u32
+        requires level_in_range { IsLevel self level }
+        requires index_in_range { index < width self level }
+        requires number_in_range { number < members self level index }
+        ensures exact { result ≡ pass_of self level index number }
+        ensures in_range { result < self.passes }
+        ensures of_aggregator { aggregator self result level ≡ index }
+    {
+        match level {
+            1 => number * self.leaves + index,
+            _ => self.pass_above(level, index, number),
+        }
+    }
+
+    // .. at any level
+    fn pass_above(self, level: u32, index: u32, number: u32) -> u32
         requires level_in_range { IsLevel self level }
         requires index_in_range { index < width self level }
         requires number_in_range { number < members self level index }
@@ -374,9 +390,9 @@ fn kind_number(kind: Kind) -> u32
     }
 }
 
-// The place of a word in its row.
+/// The place of a word in its row.
 #[inline(always)]
-fn field_number(field: Field) -> u32
+pub fn field_number(field: Field) -> u32
     ensures { result ≡ field_number field }
 {
     match field {

@@ -10,7 +10,6 @@ pub mod Meets
 pub mod Gathers
 pub mod Closed
 pub mod Spares
-pub mod RowWords
 pub mod Keeping
 pub mod Published
 pub mod OwnCalls

@@ -1,19 +1,18 @@
 -- What a pass keeps of its rows when it points to one and publishes its end.
-use Rattle.std.proofs.Common.{◌≡◌, ◌≢◌, ◌⊎◌, inl, inr, Bool, true, false, ℕ, zero, suc, ◌+◌, ◌-◌, ◌*◌, ◌%◌, ◌≤◌, ◌<◌, ◌==◌, List, length, slice_index, slice_set, refl, sym, ap, ◌∙◌, subst, arith, eq-eqb, ne_eqb, get_or-set_same}
+use Rattle.std.proofs.Common.{◌≡◌, ◌≢◌, ◌⊎◌, inl, inr, Bool, true, false, ℕ, zero, suc, ◌+◌, ◌-◌, ◌*◌, ◌%◌, ◌<◌, ◌==◌, List, length, slice_index, slice_set, refl, sym, ap, ◌∙◌, subst, arith, eq-eqb, ne_eqb, get_or-set_same}
 use Rattle.std.specs.Prelude.{if◌then◌else◌, replicate, get_or}
 use Rattle.std.proofs.lemmas.Bool.{cases_eq, cases_lt}
-use Rattle.std.proofs.lemmas.Nat.{mod_below, mod-mul-add, mul-add-lt}
+use Rattle.std.proofs.lemmas.Nat.{mod_below}
 use Rattle.std.proofs.lemmas.List.{get_or-set_other, length-set, get_or-replicate, length-replicate}
 use Rattle.std.proofs.Math.Nat.{mod-eq_of_lt}
 use Rattle.fn_model.specs.declared.Kind.{Kind}
 use Rattle.fn_model.specs.declared.Kind.TheVariants.{Add, Sub, Read}
-use Rattle.fn_rows.specs.declared.Field.TheVariants.{Lo}
 use Rattle.fn_rows.specs.declared.Stage.{Stage}
 use Rattle.fn_rows.specs.declared.Stage.TheVariants.{Filled, Pointed}
 use Rattle.fn_layout.specs.declared.shape.Shape.{Shape}
 use Rattle.fn_layout.specs.Tree.{IsLevel, member}
-use Rattle.fn_layout.specs.Words.{RowWord, IsAggregator, IsSlot, slot_number, row_number, row_word_number}
-use Rattle.fn_layout.proofs.Read.{names_are_distinct}
+use Rattle.fn_layout.specs.Words.{IsSlot, row_number}
+use Rattle.fn_layout.proofs.Rows.{row_apart, row_inside}
 use Rattle.fn_core.specs.declared.Start.{Start}
 use Rattle.fn_core.specs.declared.Move.{Move}
 use Rattle.fn_core.specs.declared.Move.TheVariants.{Point, Publish}
@@ -28,7 +27,6 @@ use Rattle.fn_table.specs.declared.tally.Tally.{Tally}
 use Rattle.fn_table.specs.Seen.{TableView, PassView, May, Stepped, own_of, fresh}
 use Rattle.fn_table.specs.Spots.{spot_of}
 use Rattle.fn_table.specs.Kept.{KeepsOwn, Keeps}
-use Rattle.fn_layout.specs.Kinds.{kind_number}
 use Rattle.fn_table.proofs.Spares.{level_case, level_here}
 use Rattle.fn_table.proofs.Keeping.{keeps_after}
 use Rattle.fn_table.proofs.Glances.{glances_run}
@@ -90,26 +88,6 @@ keeps_point p q kind level row n t u legal may k s is =
           ∙ level_case (λ (f : ℕ → ℕ). o.ends k' level' row' ≡ f row') o.ends kind level (o.ends kind level) k' level' (λ e l. (λ i. o.ends (e i) (l i) row')) refl;
     })
 
--- two rows of the first pass with the same number are the same
-row_apart : (start : Start) (kind k : Kind) (level l r r' : ℕ) → IsSlot start.shape 0 kind level → IsSlot start.shape 0 k l → r < start.shape.rows → r' < start.shape.rows → row_number start.shape 0 k l r' ≡ row_number start.shape 0 kind level r → (k ≡ kind) × (l ≡ level) × (r' ≡ r)
-row_apart start kind k level l r r' slot slot' inside inside' e =
-    let same : RowWord 0 k l r' Lo ≡ RowWord 0 kind level r Lo =
-    names_are_distinct start.shape (RowWord 0 k l r' Lo) (RowWord 0 kind level r Lo) (slot', inside') (slot, inside) (ap (λ (n : ℕ). row_word_number start.shape n Lo) e) in
-    (cc, cc, cc)
-
-kind_small : (kind : Kind) → kind ≢ Read → kind_number kind < 2
-kind_small Add h = omega arith
-kind_small Sub h = omega arith
-kind_small Read h = absurd (h refl)
-
-pub row_inside : (start : Start) (kind : Kind) (level r : ℕ) → IsSlot start.shape 0 kind level → r < start.shape.rows → row_number start.shape 0 kind level r < 2 * start.shape.levels * start.shape.rows
-row_inside start kind level r slot inside =
-    let levels : ℕ = start.shape.levels in
-    let low : 1 ≤ level = slot.2.0 in
-    let high : level ≤ levels = slot.2.1 in
-    let below : (2 * 0 + kind_number kind) * levels + (level - 1) < 2 * levels = omega (arith, mul-add-lt (2 * 0 + kind_number kind) levels (level - 1) 2 (omega (arith, kind_small kind slot.1)) (omega arith)) in
-    omega (arith, mul-add-lt ((2 * 0 + kind_number kind) * levels + (level - 1)) start.shape.rows r (2 * levels) below inside)
-
 pub keeps_publish : (p q : PassView) (kind : Kind) (level end n : ℕ) (t u : Tally) → IsSlot p.seen.start.shape 0 kind level → May p (Publish kind level) → end ≡ end_by ((own_of p).stages kind level) → Keeps p t → Stepped p (Publish kind level) n q
     → u.left ≡ t.left → u.calling ≡ t.calling → u.pointed ≡ t.pointed → u.ends.items ≡ slice_set t.ends.items (row_number p.seen.start.shape 0 kind level t.pointed) end → Keeps q u
 keeps_publish p q kind level end n t u slot may is k s left calling same ends =
@@ -123,7 +101,7 @@ keeps_publish p q kind level end n t u slot may is k s left calling same ends =
     let value : end ≡ hi = is ∙ ap end_by stage in
     let new : ℕ → ℕ = published_ends rows m (o.stages kind level) (o.ends kind level) in
     let pub_is : (x : ℕ) → new x ≡ (if m * rows + x % rows == r then hi else o.ends kind level x) = λ x. ap (λ (g : Stage). published_ends rows m g (o.ends kind level) x) stage in
-    let inside : place < length t.ends.items = subst (λ (x : ℕ). place < x) (sym k.rows) (row_inside start kind level t.pointed slot k.inside) in
+    let inside : place < length t.ends.items = subst (λ (x : ℕ). place < x) (sym k.rows) (row_inside start.shape slot k.inside) in
     keeps_after p q (Publish kind level) n u s (record {
       left = left ∙ k.left;
       calling = calling ∙ k.calling;
@@ -135,7 +113,7 @@ keeps_publish p q kind level end n t u slot may is k s left calling same ends =
       rows = ap length ends ∙ length-set t.ends.items place end ∙ k.rows;
       ends = λ k' l' r' slot' inside'.
           ap (λ (xs : List ℕ). slice_index xs (row_number start.shape 0 k' l' r')) ends ∙ elim (cases_eq (row_number start.shape 0 k' l' r') place) [
-            | inl e ↦ (let who = row_apart start kind k' level l' t.pointed r' slot slot' k.inside inside' e in
+            | inl e ↦ (let who = row_apart start.shape slot slot' k.inside inside' e in
                 let test : (m * rows + r' % rows == r) ≡ true = eq-eqb (m * rows + r' % rows) r (ap (λ (x : ℕ). m * rows + x) (mod-eq_of_lt inside' ∙ who.2) ∙ sym row) in
                 ap (slice_index (slice_set t.ends.items place end)) e ∙ get_or-set_same t.ends.items place end 0 inside ∙ value
                 ∙ sym (pub_is r' ∙ ap (λ (x : Bool). if x then hi else o.ends kind level r') test)
@@ -161,7 +139,7 @@ keeps_fresh t n u left calling pointed ends =
       inside = subst (λ (x : ℕ). x < start.shape.rows) (sym pointed) (omega (arith, start.shape.rows_in_range));
       rows = ap length ends ∙ length-replicate (2 * start.shape.levels * start.shape.rows) 0;
       ends = λ kind level row slot inside.
-          ap (λ (xs : List ℕ). slice_index xs (row_number start.shape 0 kind level row)) ends ∙ get_or-replicate (2 * start.shape.levels * start.shape.rows) (row_number start.shape 0 kind level row) 0 0 (row_inside start kind level row slot inside);
+          ap (λ (xs : List ℕ). slice_index xs (row_number start.shape 0 kind level row)) ends ∙ get_or-replicate (2 * start.shape.levels * start.shape.rows) (row_number start.shape 0 kind level row) 0 0 (row_inside start.shape slot inside);
     })
 
 -- .. of the numbers that its table opens with
@@ -177,17 +155,3 @@ still_there p q step n kind level s = ap (λ (x : PassView). spot_of x.seen.star
 
 pub level_still : (p q : PassView) (step : Move) (n level : ℕ) → Stepped p step n q → IsLevel p.seen.start.shape level → IsLevel q.seen.start.shape level
 level_still p q step n level s is = subst (λ (x : PassView). IsLevel x.seen.start.shape level) (sym s.now) is
-
--- the slot of the first pass at an aggregator
-pub slot_of : (shape : Shape) (kind : Kind) (level index : ℕ) → IsAggregator shape kind level index → IsSlot shape 0 kind level
-slot_of shape kind level index is = (omega (arith, shape.passes_in_range), is.0, is.1)
-
--- how far a row stands behind the first one of its slot
-pub row_behind : (shape : Shape) (pass : ℕ) (kind : Kind) (level n row first : ℕ) → n < shape.rows → row ≡ row_number shape pass kind level n → first ≡ row_number shape pass kind level 0 → (first ≤ row) × (row - first ≡ row % shape.rows)
-row_behind shape pass kind level n row first few is begins =
-    let rest : row % shape.rows ≡ n = ap (λ (x : ℕ). x % shape.rows) is ∙ mod-mul-add (slot_number shape pass kind level) shape.rows n few in
-    (omega (arith, is, begins), omega (arith, is, begins, rest))
-
--- .. whose number is that one's and its own number among them
-pub row_follows : (shape : Shape) (pass : ℕ) (kind : Kind) (level n first : ℕ) → first ≡ row_number shape pass kind level 0 → first + n ≡ row_number shape pass kind level n
-row_follows shape pass kind level n first begins = omega (arith, begins)

@@ -1,7 +1,6 @@
 // The number of the word that each step of a pass is on.
 ghost use Rattle.std.specs.Prelude.{◌≡◌, ◌≢◌};
 ghost use Rattle.fn_model.specs.declared.Kind.TheVariants.{Read};
-ghost use Rattle.fn_layout.specs.Kinds.{field_number};
 ghost use Rattle.fn_layout.specs.Tree.{IsLevel};
 ghost use Rattle.fn_layout.specs.Words.{IsNamed, row_name, number};
 ghost use Rattle.fn_core.specs.Words.{name_of};
@@ -10,19 +9,7 @@ ghost use Rattle.fn_table.specs.Spots.{spot_of};
 use crate::seated::Seated;
 use crate::spots::Spot;
 use fn_core::Move;
-use fn_layout::{Field, Kind, Shape};
-
-// The place of a field among the words of its row.
-#[inline(always)]
-fn place_in_row(field: Field) -> u32
-    ensures { result ≡ field_number field }
-{
-    match field {
-        Field::Lo => 0,
-        Field::Base => 1,
-        Field::Prev => 2,
-    }
-}
+use fn_layout::{Field, Kind, Shape, field_number};
 
 impl Seated {
     /// Where the pass stands at its aggregator of this kind and level.
@@ -45,7 +32,7 @@ impl Seated {
         requires { IsNamed self.now.seen.start.shape (row_name self.now.seen.start.shape row field) }
         ensures { result ≡ number self.now.seen.start.shape (row_name self.now.seen.start.shape row field) }
     {
-        self.spots.rows + (3 * row + place_in_row(field))
+        self.spots.rows + (3 * row + field_number(field))
     }
 
     /// The number of the word that the pass's step is on.

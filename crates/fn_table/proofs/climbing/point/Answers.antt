@@ -4,7 +4,8 @@ use Rattle.fn_core.specs.declared.Move.TheVariants.{Point}
 use Rattle.fn_table.specs.declared.spots.Spot.{Spot}
 use Rattle.fn_table.specs.Seen.{PassView, May}
 use Rattle.fn_table.proofs.Owes.{named, legal_before}
-use Rattle.fn_table.proofs.Published.{keeps_point, still_there, level_still, row_behind}
+use Rattle.fn_layout.proofs.Rows.{row_behind}
+use Rattle.fn_table.proofs.Published.{keeps_point, still_there, level_still}
 use Rattle.fn_table.proofs.climbing.point.Goals as goal
 
 may_as : (p q : PassView) (step : Move) → q ≡ p → May p step → May q step
@@ -30,7 +31,7 @@ overflow_sub-pass c =
     let p = c.pass.inside.caller in
     let step = Point c.args.kind c.args.level c.args.row in
     let may = may_as c.args.pass.now p step c.pass.view_is c.requires.may in
-    (row_behind p.seen.start.shape p.number c.args.kind c.args.level may.1.1 c.args.row c.spot.result.row may.1.2.0 may.1.2.1 (ap (λ (x : Spot). x.row) (c.spot.ensures ∙ still_there p _ step _ c.args.kind c.args.level c.store.ensures.1))).0
+    (row_behind p.seen.start.shape p.number c.args.kind c.args.level may.1.2.0 may.1.2.1 (ap (λ (x : Spot). x.row) (c.spot.ensures ∙ still_there p _ step _ c.args.kind c.args.level c.store.ensures.1))).0
 
 pub invariant_of-pass : goal.invariant_of-pass
 invariant_of-pass c =
@@ -38,5 +39,5 @@ invariant_of-pass c =
     let t = c.pass.inside.tally in
     let step = Point c.args.kind c.args.level c.args.row in
     let may = may_as c.args.pass.now p step c.pass.view_is c.requires.may in
-    let behind = row_behind p.seen.start.shape p.number c.args.kind c.args.level may.1.1 c.args.row c.spot.result.row may.1.2.0 may.1.2.1 (ap (λ (x : Spot). x.row) (c.spot.ensures ∙ still_there p _ step _ c.args.kind c.args.level c.store.ensures.1)) in
+    let behind = row_behind p.seen.start.shape p.number c.args.kind c.args.level may.1.2.0 may.1.2.1 (ap (λ (x : Spot). x.row) (c.spot.ensures ∙ still_there p _ step _ c.args.kind c.args.level c.store.ensures.1)) in
     keeps_point p _ c.args.kind c.args.level c.args.row _ _ _ (legal_before p _ step _ c.store.ensures.1) may c.pass.invariant c.store.ensures.1 (λ i. record { left = t.left; calling = t.calling; pointed = behind.1 i; ends = t.ends })

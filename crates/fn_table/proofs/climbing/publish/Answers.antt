@@ -7,7 +7,8 @@ use Rattle.fn_core.specs.Words.{end_by}
 use Rattle.fn_table.specs.declared.spots.Spot.{Spot}
 use Rattle.fn_table.specs.Seen.{PassView, May, own_of}
 use Rattle.fn_table.proofs.Owes.{named, legal_before}
-use Rattle.fn_table.proofs.Published.{keeps_publish, still_there, level_still, slot_of, row_inside, row_follows}
+use Rattle.fn_layout.proofs.Rows.{slot_of, row_inside, row_follows}
+use Rattle.fn_table.proofs.Published.{keeps_publish, still_there, level_still}
 use Rattle.fn_table.proofs.climbing.publish.Goals as goal
 
 may_as : (p q : PassView) (kind : Kind) (level : ℕ) → q ≡ p → May p (Publish kind level) → May q (Publish kind level)
@@ -31,8 +32,8 @@ overflow_add-place c =
     let t = c.pass.inside.tally in
     let step = Publish c.args.kind c.args.level in
     let n = named p step (legal_before p _ step _ c.store.ensures.1) (may_as c.args.pass.now p c.args.kind c.args.level c.pass.view_is c.requires.may) in
-    let there = row_follows p.seen.start.shape 0 c.args.kind c.args.level t.pointed c.spot.result.end (ap (λ (x : Spot). x.end) (c.spot.ensures ∙ still_there p _ step _ c.args.kind c.args.level c.store.ensures.1)) in
-    omega (arith, there, row_number_below p.seen.start.shape 0 c.args.kind c.args.level t.pointed (slot_of p.seen.start.shape c.args.kind c.args.level _ n) c.pass.invariant.inside, all_rows_le p.seen.start.shape)
+    let there = row_follows p.seen.start.shape 0 c.args.kind c.args.level t.pointed (ap (λ (x : Spot). x.end) (c.spot.ensures ∙ still_there p _ step _ c.args.kind c.args.level c.store.ensures.1)) in
+    omega (arith, there, row_number_below p.seen.start.shape 0 c.args.kind c.args.level t.pointed (slot_of p.seen.start.shape n) c.pass.invariant.inside, all_rows_le p.seen.start.shape)
 
 pub publish-requires : goal.publish-requires
 publish-requires c =
@@ -40,8 +41,8 @@ publish-requires c =
     let t = c.pass.inside.tally in
     let step = Publish c.args.kind c.args.level in
     let n = named p step (legal_before p _ step _ c.store.ensures.1) (may_as c.args.pass.now p c.args.kind c.args.level c.pass.view_is c.requires.may) in
-    let there = row_follows p.seen.start.shape 0 c.args.kind c.args.level t.pointed c.spot.result.end (ap (λ (x : Spot). x.end) (c.spot.ensures ∙ still_there p _ step _ c.args.kind c.args.level c.store.ensures.1)) in
-    omega (arith, there, row_inside p.seen.start c.args.kind c.args.level t.pointed (slot_of p.seen.start.shape c.args.kind c.args.level _ n) c.pass.invariant.inside, c.pass.invariant.rows)
+    let there = row_follows p.seen.start.shape 0 c.args.kind c.args.level t.pointed (ap (λ (x : Spot). x.end) (c.spot.ensures ∙ still_there p _ step _ c.args.kind c.args.level c.store.ensures.1)) in
+    omega (arith, there, row_inside p.seen.start.shape (slot_of p.seen.start.shape n) c.pass.invariant.inside, c.pass.invariant.rows)
 
 pub invariant_of-pass : goal.invariant_of-pass
 invariant_of-pass c =
@@ -51,6 +52,6 @@ invariant_of-pass c =
     let may = may_as c.args.pass.now p c.args.kind c.args.level c.pass.view_is c.requires.may in
     let n = named p step (legal_before p _ step _ c.store.ensures.1) may in
     let end : c.args.end ≡ end_by ((own_of p).stages c.args.kind c.args.level) = subst (λ (x : PassView). c.args.end ≡ end_by ((own_of x).stages c.args.kind c.args.level)) (sym c.pass.view_is) c.requires.end in
-    let there = row_follows p.seen.start.shape 0 c.args.kind c.args.level t.pointed c.spot.result.end (ap (λ (x : Spot). x.end) (c.spot.ensures ∙ still_there p _ step _ c.args.kind c.args.level c.store.ensures.1)) in
+    let there = row_follows p.seen.start.shape 0 c.args.kind c.args.level t.pointed (ap (λ (x : Spot). x.end) (c.spot.ensures ∙ still_there p _ step _ c.args.kind c.args.level c.store.ensures.1)) in
     let e = c.publish.ensures in
-    keeps_publish p _ c.args.kind c.args.level c.args.end _ t _ (slot_of p.seen.start.shape c.args.kind c.args.level _ n) may end c.pass.invariant c.store.ensures.1 e.left e.calling e.pointed (e.ends ∙ ap (λ (x : ℕ). slice_set t.ends.items x c.args.end) there)
+    keeps_publish p _ c.args.kind c.args.level c.args.end _ t _ (slot_of p.seen.start.shape n) may end c.pass.invariant c.store.ensures.1 e.left e.calling e.pointed (e.ends ∙ ap (λ (x : ℕ). slice_set t.ends.items x c.args.end) there)

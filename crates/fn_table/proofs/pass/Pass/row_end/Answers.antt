@@ -4,7 +4,7 @@ use Rattle.fn_layout.specs.Words.{IsSlot}
 use Rattle.fn_core.specs.declared.Start.{Start}
 use Rattle.fn_table.specs.declared.spots.Spot.{Spot}
 use Rattle.fn_table.specs.Seen.{TableView, PassView, IsOf, own_of}
-use Rattle.fn_table.proofs.Published.{row_inside, row_follows}
+use Rattle.fn_layout.proofs.Rows.{row_inside, row_follows}
 use Rattle.fn_table.proofs.pass.Pass.row_end.Goals as goal
 
 -- the pass has the shape of its table
@@ -17,7 +17,7 @@ row_end-requires c =
     let shape = same_shape c.args.table.now c.args.self.now c.self.inside.caller c.self.view_is c.requires.together in
     let slot = subst (λ (s : Shape). IsSlot s 0 c.args.kind c.args.level) shape (omega (arith, c.args.table.now.start.shape.passes_in_range), c.requires.slot.1, c.requires.slot.2) in
     let few = subst (λ (s : Shape). c.args.row < s.rows) shape c.requires.row in
-    omega (arith, row_follows start.shape 0 c.args.kind c.args.level c.args.row c.spot.result.end (ap (λ (x : Spot). x.end) c.spot.ensures), row_inside start c.args.kind c.args.level c.args.row slot few, c.self.invariant.rows)
+    omega (arith, row_follows start.shape 0 c.args.kind c.args.level c.args.row (ap (λ (x : Spot). x.end) c.spot.ensures), row_inside start.shape slot few, c.self.invariant.rows)
 
 pub returns : goal.returns
 returns c =
@@ -25,5 +25,5 @@ returns c =
     let shape = same_shape c.args.table.now c.args.self.now c.self.inside.caller c.self.view_is c.requires.together in
     let slot = subst (λ (s : Shape). IsSlot s 0 c.args.kind c.args.level) shape (omega (arith, c.args.table.now.start.shape.passes_in_range), c.requires.slot.1, c.requires.slot.2) in
     let few = subst (λ (s : Shape). c.args.row < s.rows) shape c.requires.row in
-    let there = row_follows start.shape 0 c.args.kind c.args.level c.args.row c.spot.result.end (ap (λ (x : Spot). x.end) c.spot.ensures) in
+    let there = row_follows start.shape 0 c.args.kind c.args.level c.args.row (ap (λ (x : Spot). x.end) c.spot.ensures) in
     c.row_end.ensures ∙ ap (slice_index c.self.inside.tally.ends.items) there ∙ c.self.invariant.ends c.args.kind c.args.level c.args.row slot few ∙ ap (λ (p : PassView). (own_of p).ends c.args.kind c.args.level c.args.row) c.self.view_is
