@@ -20,6 +20,7 @@ spot_of shape pass kind level =
       last = number shape (Last kind level index);
       done = number shape (Done kind level index);
       announcement = number shape (Announcement pass kind level);
+      first_announcement = number shape (Announcement 0 kind level);
       index = index;
       members = members shape level index;
       row = row_number shape pass kind level 0;

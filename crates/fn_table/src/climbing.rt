@@ -23,6 +23,7 @@ fn spent_at(level: u32, weight: u64) -> u64
 }
 
 /// Loads another pass's announcement, while the pass makes no call.
+#[inline(always)]
 pub fn scan(table: &FunnelTable, pass: &mut Pass, kind: Kind, level: u32, other: u32) -> u64
     requires together { IsOf table.now pass.old }
     requires may { May pass.old (Scan kind level other) }
@@ -32,6 +33,7 @@ pub fn scan(table: &FunnelTable, pass: &mut Pass, kind: Kind, level: u32, other:
 }
 
 /// Loads `done` of the pass's aggregator, before it announces.
+#[inline(always)]
 pub fn see(table: &FunnelTable, pass: &mut Pass, kind: Kind, level: u32) -> u64
     requires together { IsOf table.now pass.old }
     requires may { May pass.old (See kind level) }
@@ -43,6 +45,7 @@ pub fn see(table: &FunnelTable, pass: &mut Pass, kind: Kind, level: u32) -> u64
 }
 
 /// Announces the number that the pass saw.
+#[inline(always)]
 pub fn announce(table: &FunnelTable, pass: &mut Pass, kind: Kind, level: u32, seen: u64)
     requires together { IsOf table.now pass.old }
     requires may { May pass.old (Announce kind level) }
@@ -54,6 +57,7 @@ pub fn announce(table: &FunnelTable, pass: &mut Pass, kind: Kind, level: u32, se
 }
 
 /// Adds the weight to the value of the pass's aggregator; at level 1 a call begins, which spends it.
+#[inline(always)]
 pub fn arrive(table: &FunnelTable, pass: &mut Pass, kind: Kind, level: u32, weight: u64) -> u64
     requires together { IsOf table.now pass.old }
     requires may { May pass.old (Arrive kind level weight) }
@@ -71,6 +75,7 @@ pub fn arrive(table: &FunnelTable, pass: &mut Pass, kind: Kind, level: u32, weig
 }
 
 /// Loads `done` of the pass's aggregator, by which the pass learns whether it leads, waits or is late.
+#[inline(always)]
 pub fn look(table: &FunnelTable, pass: &mut Pass, kind: Kind, level: u32) -> u64
     requires together { IsOf table.now pass.old }
     requires may { May pass.old (Look kind level) }
@@ -80,6 +85,7 @@ pub fn look(table: &FunnelTable, pass: &mut Pass, kind: Kind, level: u32) -> u64
 }
 
 /// Loads the value of the pass's aggregator, which ends its batch.
+#[inline(always)]
 pub fn close_batch(table: &FunnelTable, pass: &mut Pass, kind: Kind, level: u32) -> u64
     requires together { IsOf table.now pass.old }
     requires may { May pass.old (Close kind level) }
@@ -89,6 +95,7 @@ pub fn close_batch(table: &FunnelTable, pass: &mut Pass, kind: Kind, level: u32)
 }
 
 /// Loads `last` of the pass's aggregator.
+#[inline(always)]
 pub fn head(table: &FunnelTable, pass: &mut Pass, kind: Kind, level: u32) -> u64
     requires together { IsOf table.now pass.old }
     requires may { May pass.old (Head kind level) }
@@ -98,6 +105,7 @@ pub fn head(table: &FunnelTable, pass: &mut Pass, kind: Kind, level: u32) -> u64
 }
 
 /// Stores a word of the pass's row.
+#[inline(always)]
 pub fn fill(table: &FunnelTable, pass: &mut Pass, row: u32, field: Field, word: u64)
     requires together { IsOf table.now pass.old }
     requires may { May pass.old (Fill row field) }
@@ -108,6 +116,7 @@ pub fn fill(table: &FunnelTable, pass: &mut Pass, row: u32, field: Field, word: 
 }
 
 /// Stores the number of the pass's row in `last`.
+#[inline(always)]
 pub fn point(table: &FunnelTable, pass: &mut Pass, kind: Kind, level: u32, row: u32)
     requires together { IsOf table.now pass.old }
     requires may { May pass.old (Point kind level row) }
@@ -119,6 +128,7 @@ pub fn point(table: &FunnelTable, pass: &mut Pass, kind: Kind, level: u32, row: 
 }
 
 /// Stores the end of the pass's batch in `done`.
+#[inline(always)]
 pub fn publish(table: &FunnelTable, pass: &mut Pass, kind: Kind, level: u32, end: u64)
     requires together { IsOf table.now pass.old }
     requires may { May pass.old (Publish kind level) }
@@ -131,6 +141,7 @@ pub fn publish(table: &FunnelTable, pass: &mut Pass, kind: Kind, level: u32, end
 }
 
 /// Loads a word of the row in hand.
+#[inline(always)]
 pub fn peek(table: &FunnelTable, pass: &mut Pass, row: u32, field: Field) -> u64
     requires together { IsOf table.now pass.old }
     requires may { May pass.old (Peek row field) }
@@ -140,6 +151,7 @@ pub fn peek(table: &FunnelTable, pass: &mut Pass, row: u32, field: Field) -> u64
 }
 
 /// Takes the pass's announcement back.
+#[inline(always)]
 pub fn leave(table: &FunnelTable, pass: &mut Pass, kind: Kind, level: u32)
     requires together { IsOf table.now pass.old }
     requires may { May pass.old (Leave kind level) }

@@ -13,6 +13,7 @@ use fn_layout::Kind;
 use fn_model::after_capped;
 
 /// Adds the batch's weight to the main word.
+#[inline(always)]
 pub fn apply_batch(table: &FunnelTable, pass: &mut Pass, weight: u64) -> u64
     requires together { IsOf table.now pass.old }
     requires may { May pass.old (Apply weight) }
@@ -22,6 +23,7 @@ pub fn apply_batch(table: &FunnelTable, pass: &mut Pass, weight: u64) -> u64
 }
 
 /// Loads the main word, to try an exchange.
+#[inline(always)]
 pub fn load_try(table: &FunnelTable, pass: &mut Pass) -> u64
     requires together { IsOf table.now pass.old }
     requires may { May pass.old (Load purpose.Try) }
@@ -42,6 +44,7 @@ pub fn load_read(table: &FunnelTable, pass: &mut Pass) -> u64
 }
 
 /// Exchanges the main word, where it is still the loaded one, for what the call or the batch makes of it. If it is another, gives that and stores nothing.
+#[inline(always)]
 pub fn exchange(
     table: &FunnelTable,
     pass: &mut Pass,

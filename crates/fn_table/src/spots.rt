@@ -6,13 +6,14 @@ ghost use Rattle.fn_table.specs.Spots.{spot_of, level_spots, spots_of};
 
 use fn_layout::{Field, Kind, Shape};
 
-/// Where a pass stands at one of its aggregators: the numbers of that one's words, and of the word in which the pass announces; the aggregator's index on its level, and how many passes it has; the first of the pass's rows there, and the place of that row's end among those of all its rows.
+/// Where a pass stands at one of its aggregators: the numbers of that one's words, of the word in which the pass announces, and of the one in which the first pass does; the aggregator's index on its level, and how many passes it has; the first of the pass's rows there, and the place of that row's end among those of all its rows.
 #[derive(Clone, Copy, Drop)]
 pub struct Spot {
     pub value: u32,
     pub last: u32,
     pub done: u32,
     pub announcement: u32,
+    pub first_announcement: u32,
     pub index: u32,
     pub members: u32,
     pub row: u32,
@@ -38,6 +39,7 @@ fn spot_at(shape: Shape, pass: u32, kind: Kind, level: u32) -> Spot
         last: shape.last_word(kind, level, index),
         done: shape.done_word(kind, level, index),
         announcement: shape.announce_word(pass, kind, level),
+        first_announcement: shape.announce_word(0, kind, level),
         index,
         members: shape.members(level, index),
         row: shape.row_of(pass, kind, level, 0),

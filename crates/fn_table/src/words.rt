@@ -2,7 +2,7 @@
 ghost use Rattle.std.specs.Prelude.{◌≡◌, ◌≢◌};
 ghost use Rattle.fn_model.specs.declared.Kind.TheVariants.{Read};
 ghost use Rattle.fn_layout.specs.Tree.{IsLevel};
-ghost use Rattle.fn_layout.specs.Words.{IsNamed, row_name, number};
+ghost use Rattle.fn_layout.specs.Words.{Announcement, IsNamed, IsSlot, row_name, number};
 ghost use Rattle.fn_core.specs.Words.{name_of};
 ghost use Rattle.fn_table.specs.Spots.{spot_of};
 
@@ -26,6 +26,16 @@ impl Seated {
         spots[(level - 1) as usize]
     }
 
+    // The word in which a pass announces at this kind and level.
+    #[inline(always)]
+    fn announcement_of(&self, shape: Shape, kind: Kind, level: u32, pass: u32) -> u32
+        requires shape { shape ≡ self.now.seen.start.shape }
+        requires slot { IsSlot self.now.seen.start.shape pass kind level }
+        ensures { result ≡ number self.now.seen.start.shape (Announcement pass kind level) }
+    {
+        self.spot(kind, level).first_announcement + 2 * pass * shape.levels()
+    }
+
     // The word of a row.
     #[inline(always)]
     fn row_word(&self, row: u32, field: Field) -> u32
@@ -43,7 +53,7 @@ impl Seated {
         ensures { result ≡ number self.now.seen.start.shape (name_of self.now.seen.start.shape self.now.number step) }
     {
         match step {
-            Move::Scan { kind, level, other } => shape.announce_word(other, kind, level),
+            Move::Scan { kind, level, other } => self.announcement_of(shape, kind, level, other),
             Move::See { kind, level } => self.spot(kind, level).done,
             Move::Announce { kind, level } => self.spot(kind, level).announcement,
             Move::Arrive { kind, level, .. } => self.spot(kind, level).value,
