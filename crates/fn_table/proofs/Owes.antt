@@ -47,6 +47,10 @@ may_take p step legal may = (legal.0, state_in p.seen, refl, may)
 pub may_take_after : (p : PassView) (step : Move) → IsLegal p.seen → May p step → MayTake p.seen.start (machine.own_of funnel p.seen.start p.seen.log p.number) (event p.number step)
 may_take_after p step legal may = subst (λ (o : Own). MayTake p.seen.start o (event p.number step)) (sym (own_is p.seen.start p.seen.log p.number)) (may_take p step legal may)
 
+-- what is the same pass may take the same steps
+pub may_as : {p q : PassView} (step : Move) → q ≡ p → May p step → May q step
+may_as step is may = subst (λ (x : PassView). May x step) (sym is) may
+
 -- the word of the step is one of the funnel's, and what is found there is the word of its name
 pub named : (p : PassView) (step : Move) → IsLegal p.seen → May p step → IsNamed p.seen.start.shape (name_of p.seen.start.shape p.number step)
 named p step legal may = (words_are_found p.seen.start p.seen.log (event p.number step) legal.0 legal.1 may).0

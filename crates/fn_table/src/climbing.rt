@@ -122,9 +122,11 @@ pub fn point(table: &FunnelTable, pass: &mut Pass, kind: Kind, level: u32, row: 
     requires may { May pass.old (Point kind level row) }
     ensures { Stored pass.old (Point kind level row) pass.new }
 {
+    let _number = pass.number();
+    let first = pass.spot(kind, level).row;
     let step = Move::Point { kind, level, row };
     store(table, &mut pass.caller, u64::from(row) + 1, step);
-    pass.tally.pointed = row - pass.caller.spot(kind, level).row;
+    pass.tally.pointed = row - first;
 }
 
 /// Stores the end of the pass's batch in `done`.
@@ -135,8 +137,9 @@ pub fn publish(table: &FunnelTable, pass: &mut Pass, kind: Kind, level: u32, end
     requires end { end ≡ end_by ((own_of pass.old).stages kind level) }
     ensures { Stored pass.old (Publish kind level) pass.new }
 {
+    let _number = pass.number();
+    let place = pass.spot(kind, level).end + pass.tally.pointed;
     store(table, &mut pass.caller, end, Move::Publish { kind, level });
-    let place = pass.caller.spot(kind, level).end + pass.tally.pointed;
     pass.tally.publish(place, end);
 }
 

@@ -70,7 +70,7 @@ impl Pass {
         ensures { result ≡ (own_of self.now).ends kind level row }
     {
         let _ = table;
-        self.tally.row_end(self.caller.spot(kind, level).end + row)
+        self.tally.row_end(self.spot(kind, level).end + row)
     }
 }
 

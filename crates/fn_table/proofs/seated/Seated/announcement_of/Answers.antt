@@ -1,6 +1,5 @@
-use Rattle.std.proofs.Common.{◌≡◌, ◌+◌, ◌*◌, ap, ◌∙◌, arith}
+use Rattle.std.proofs.Common.{◌+◌, ◌*◌, ap, ◌∙◌, arith}
 use Rattle.fn_layout.specs.declared.shape.Shape.{Shape}
-use Rattle.fn_layout.specs.Words.{Announcement, number}
 use Rattle.fn_layout.proofs.Numbers.{slot_number_below}
 use Rattle.fn_layout.proofs.Rows.{announcement_on, rows_begin_low}
 use Rattle.fn_table.specs.declared.spots.Spot.{Spot}
