@@ -7,14 +7,10 @@ use Rattle.fn_rows.specs.declared.Field.TheVariants.{Lo}
 use Rattle.fn_layout.specs.declared.shape.Shape.{Shape}
 use Rattle.fn_layout.specs.Kinds.{kind_number}
 use Rattle.fn_layout.specs.Tree.{first_widths}
-use Rattle.fn_layout.specs.Words.{RowWord, Announcement, IsAggregator, IsSlot, IsNamed, number, row_name, slot_number, row_number, row_word_number}
+use Rattle.fn_layout.specs.Words.{RowWord, Announcement, IsSlot, IsNamed, number, row_name, slot_number, row_number, row_word_number}
 use Rattle.fn_layout.proofs.Tree.{width_above_le, first_widths_rises}
 use Rattle.fn_layout.proofs.Numbers.{kind_number_below, slots_le, all_rows_le}
 use Rattle.fn_layout.proofs.Read.{names_are_distinct, row_named_below}
-
--- the slot of the first pass at an aggregator
-pub slot_of : (s : Shape) {kind : Kind} {level index : ℕ} → IsAggregator s kind level index → IsSlot s 0 kind level
-slot_of s is = (omega (arith, s.passes_in_range), is.0, is.1)
 
 -- what a slot of another pass adds to the announcement of the first one
 pub announcement_on : (s : Shape) (pass : ℕ) (kind : Kind) (level : ℕ) → number s (Announcement 0 kind level) + 2 * pass * s.levels ≡ number s (Announcement pass kind level)
