@@ -139,6 +139,7 @@ impl Shape {
     }
 
     /// The number of passes of an aggregator.
+    #[inline(always)]
     pub fn members(self, level: u32, index: u32) -> u32
         requires level_in_range { IsLevel self level }
         requires index_in_range { index < width self level }
@@ -152,6 +153,7 @@ impl Shape {
     }
 
     /// The number of a pass among the passes of its aggregator, from 0 in rising order.
+    #[inline(always)]
     pub fn member(self, pass: u32, level: u32) -> u32
         requires level_in_range { IsLevel self level }
         requires pass_in_range { pass < self.passes }
@@ -269,6 +271,7 @@ impl Shape {
         }
     }
 
+    #[inline(always)]
     fn first_leaf(self, level: u32, index: u32) -> u32
         requires level_in_range { IsLevel self level }
         requires index_in_range { index < width self level }
@@ -278,6 +281,7 @@ impl Shape {
         index * self.reach(level)
     }
 
+    #[inline(always)]
     fn leaves_under(self, level: u32, index: u32) -> u32
         requires level_in_range { IsLevel self level }
         requires index_in_range { index < width self level }
