@@ -1,5 +1,5 @@
 -- The steps by which a call that has the base of its batch fills a row and publishes it: what each needs, and what they leave together.
-use Rattle.std.proofs.Common.{◌≡◌, inl, inr, ℕ, ◌+◌, ◌-◌, ◌*◌, ◌<◌, List, [], ◌∷◌, None, refl, sym, ap, subst, ◌∙◌}
+use Rattle.std.proofs.Common.{◌≡◌, inl, inr, ℕ, ◌+◌, ◌-◌, ◌*◌, ◌<◌, None, refl, sym, ap, subst, ◌∙◌}
 use Rattle.std.specs.Prelude.{slice_index_or}
 use Rattle.std.proofs.lemmas.Nat.{mod-mul-add}
 use Rattle.fn_rows.specs.declared.Field.TheVariants.{Lo, Base, Prev}
@@ -27,11 +27,12 @@ use Rattle.fn_layout.proofs.Rows.{row_follows}
 use Rattle.fn_climb.specs.declared.course.Course.{Course}
 use Rattle.fn_climb.specs.Course.{at_stage, chosen_at, Holds, pending_of}
 use Rattle.fn_climb.specs.Steps.{Advanced}
-use Rattle.fn_climb.specs.Turns.{GoesOn}
+use Rattle.fn_climb.specs.Turns.{Ran}
 use Rattle.fn_climb.proofs.Underway.{placed, climbing_at, may_at_stage, stage_now}
 use Rattle.fn_climb.proofs.Onward.{legal_before}
 use Rattle.fn_climb.proofs.Moves.{fill_stores, may_fill_first, headed_lead, filled_first, filled_base, filled_prev, pointed, published}
 use Rattle.fn_climb.proofs.Goes.{moved}
+use Rattle.fn_climb.proofs.Sofar.{ran_one, ran_more}
 
 -- what a pass's table and number tell stays as it takes a step
 still : {A : Type 0} (f : Shape → ℕ → A) {p q : PassView} {step : Move} {n : ℕ} → Stepped p step n q → f q.seen.start.shape q.number ≡ f p.seen.start.shape p.number
@@ -151,11 +152,6 @@ module _ {p : PassView} {c : Course} (h : Holds p c) (free : c.word ≡ None) wh
                 sixth : Advanced (pending_of q5 c) told.Going q6 (at_g (Got base 0))
                 sixth = moved fifth.1.0 refl (published fifth.1.0 refl refl t6)
 
-                pub batch_goes : (steps : List Move) × GoesOn (pending_of p c) steps q6
-                batch_goes = (
-                  first.0.step ∷ second.0.step ∷ third.0.step ∷ fourth.0.step ∷ fifth.0.step ∷ sixth.0.step ∷ [],
-                  (q1, first.0, refl, (q2, second.0, refl, (q3, third.0, refl, (q4, fourth.0, refl, (q5, fifth.0, refl, (q6, sixth.0, refl, refl)))))),
-                )
-
-                pub batch_holds : Holds q6 (at_g (Got base 0))
-                batch_holds = sixth.1.0
+                pub batch_ran : Ran (pending_of p c) told.Going q6 (at_g (Got base 0))
+                batch_ran =
+                    ran_more (ran_one told.Going first) (ran_more (ran_one told.Going second) (ran_more (ran_one told.Going third) (ran_more (ran_one told.Going fourth) (ran_more (ran_one told.Going fifth) (ran_one told.Going sixth)))))

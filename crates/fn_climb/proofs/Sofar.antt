@@ -24,10 +24,12 @@ use Rattle.fn_core.specs.Laws.{HoldsRows}
 use Rattle.fn_core.specs.Calls.{CoreLog, state_in, IsLegal, HasCall, Follows, HasFewLeft}
 use Rattle.fn_core.specs.Polls.{is_going, is_exchange, exchanges}
 use Rattle.fn_core.proofs.Public.{members_few, positions_fit, legal_parts, in_call}
-use Rattle.fn_table.specs.Seen.{PassView, event, with_log}
+use Rattle.fn_table.specs.Seen.{TableView, PassView, IsOf, event, with_log}
 use Rattle.fn_climb.specs.Next.{PendingView, IsNext}
-use Rattle.fn_climb.specs.Steps.{HasSameCall, Went}
-use Rattle.fn_climb.specs.Turns.{GoesOn, Polled}
+use Rattle.fn_climb.specs.declared.course.Course.{Course}
+use Rattle.fn_climb.specs.Course.{Holds, pending_of}
+use Rattle.fn_climb.specs.Steps.{HasSameCall, HoldsStill, Went, Advanced}
+use Rattle.fn_climb.specs.Turns.{GoesOn, Ran, Polled}
 use Rattle.running.proofs.Logs.{prefix_on}
 use Rattle.fn_climb.proofs.Onward.{joined_from, next_cases}
 
@@ -261,9 +263,39 @@ pub falls_along : (r : PendingView) (s : PassView) (steps : List Move) → GoesO
 falls_along r s [] is = let e : left_in s ≡ left_in r.pass = ap left_in is in omega (arith, e)
 falls_along r s (step ∷ steps) goes = let more = falls_along (on r goes.0) s steps goes.3 in let one = falls r goes.0 goes.1 in omega (arith, more, one)
 
--- a step of a call with these rows
-pub with_rows : (r : PassView) (rows kept : List ℕ) (told : CoreStep) (q : PassView) → rows ≡ kept → Went (record { pass = r; rows = rows }) told q → Went (record { pass = r; rows = kept }) told q
-with_rows r rows kept told q same = subst (λ (xs : List ℕ). Went (record { pass = r; rows = xs }) told q) same
+-- no step is a run, and one is
+pub ran_none : {p : PassView} {c : Course} → Holds p c → Ran (pending_of p c) told.Going p c
+ran_none {p} holds = record { steps = []; until = p; goes = refl; ends = (refl, (holds, refl)) }
 
-pub along_rows : (r : PassView) (rows kept : List ℕ) (steps : List Move) (q : PassView) → rows ≡ kept → GoesOn (record { pass = r; rows = rows }) steps q → GoesOn (record { pass = r; rows = kept }) steps q
-along_rows r rows kept steps q same = subst (λ (xs : List ℕ). GoesOn (record { pass = r; rows = xs }) steps q) same
+pub ran_one : {p : PendingView} {q : PassView} {c : Course} (told : CoreStep) → Advanced p told q c → Ran p told q c
+ran_one {q = q} told.Going (w, still) = record { steps = w.step ∷ []; until = q; goes = (q, w, refl, refl); ends = (refl, still) }
+ran_one {p} (told.Ready reply) advanced = record { steps = []; until = p.pass; goes = refl; ends = advanced }
+ran_one {p} (told.NotYet why) advanced = record { steps = []; until = p.pass; goes = refl; ends = advanced }
+
+-- a run, and another
+pub ran_more : {p : PendingView} {r q : PassView} {c d : Course} {how : CoreStep} → Ran p told.Going r c → Ran (pending_of r c) how q d → Ran p how q d
+ran_more {p} {r} {q} {d = d} {how} first next =
+    let then_on = subst (λ (xs : List ℕ). Ran (record { pass = r; rows = xs }) how q d) first.ends.1.1 next in record {
+      steps = first.steps ++ then_on.steps;
+      until = then_on.until;
+      goes = goes_both p r then_on.until first.steps then_on.steps (subst (GoesOn p first.steps) (sym first.ends.0) first.goes) then_on.goes;
+      ends = then_on.ends;
+    }
+
+-- a run so far
+ran_sofar : {p : PendingView} {q : PassView} {c : Course} {told : CoreStep} (ran : Ran p told q c) → SoFar p ran.until
+ran_sofar {p} ran = sofar_along p p.pass ran.until ran.steps (sofar_none p) ran.goes
+
+-- it stays with its table
+pub ran_of : {t : TableView} {p : PendingView} {q : PassView} {c : Course} → IsOf t p.pass → Ran p told.Going q c → IsOf t q
+ran_of {t} of ran = let (log, is, so) = ran_sofar ran in subst (IsOf t) (sym (ran.ends.0 ∙ is)) of
+
+-- and leaves no more steps
+pub ran_falls : {p : PendingView} {q : PassView} {c : Course} → Ran p told.Going q c → left_in q ≤ left_in p.pass
+ran_falls {p} ran = let e = ap left_in ran.ends.0 in let l = falls_along p ran.until ran.steps ran.goes in omega (arith, e, l)
+
+-- one that doesn't leave the call going is a poll
+pub ran_polled : {p : PendingView} {q : PassView} {c : Course} (how : CoreStep) → (how ≡ told.Going → ⊥) → Ran p how q c → Polled p how q × HoldsStill p how q c
+ran_polled told.Going never ran = absurd (never refl)
+ran_polled {p} {q} (told.Ready reply) never ran = (polled p ran.until q (told.Ready reply) (ran_sofar ran) ran.ends.0 refl, ran.ends.1)
+ran_polled {p} {q} (told.NotYet why) never ran = (polled p ran.until q (told.NotYet why) (ran_sofar ran) ran.ends.0 refl, ran.ends.1)

@@ -2,6 +2,7 @@
 --     PollAnswers pending answer      what a poll answers
 --     GoesOn pending steps after      the pass took these steps of its call, each of which left it going
 --     Polled pending told after      .. and one more, which told this
+--     Ran pending told after course      the pass took such steps, and one more where that told something else
 --     PolledInVain pending why after      .. to wait
 use Rattle.std.specs.Prelude.{◌≡◌, ℕ, suc, ◌+◌, ◌*◌, ◌≤◌, false, List, [], ◌∷◌, ◌++◌, length}
 use Rattle.fn_core.specs.declared.Move.{Move}
@@ -14,7 +15,8 @@ use Rattle.fn_core.specs.Polls.{is_going, exchanges}
 use Rattle.fn_table.specs.Seen.{PassView}
 use Rattle.fn_climb.specs.Next.{PendingView}
 use Rattle.fn_table.specs.Later.{IsLater}
-use Rattle.fn_climb.specs.Steps.{HasSameCall, HasReplied, Went}
+use Rattle.fn_climb.specs.declared.course.Course.{Course}
+use Rattle.fn_climb.specs.Steps.{HasSameCall, HasReplied, HoldsStill, Went, Advanced}
 use Rattle.fn_climb.specs.declared.polling.Turn.{Turn}
 use Rattle.fn_climb.specs.declared.polling.Turn.TheVariants.{Ready, NotYet}
 
@@ -36,6 +38,18 @@ pub record Polled (p : PendingView) (told : CoreStep) (q : PassView) : Type 0 wh
   pub follows : Follows p.seen q.seen p.number told
   pub replied : HasReplied q told
   pub same : HasSameCall p.pass q
+
+-- such steps end here, or with one more that told this, and the call's course has kept up
+abbrev pub EndsWith : PendingView → CoreStep → PassView → Course → Type 0
+EndsWith p told.Going q c = (q ≡ p.pass) × HoldsStill p told.Going q c
+EndsWith p told q c = Advanced p told q c
+
+-- the pass took steps of its call, each of which left it going, up to here, or to one that told this
+pub record Ran (p : PendingView) (told : CoreStep) (q : PassView) (c : Course) : Type 0 where
+  pub steps : List Move
+  pub until : PassView
+  pub goes : GoesOn p steps until
+  pub ends : EndsWith (record p { pass = until }) told q c
 
 -- a poll that told the call to wait, for this reason; the call keeps its rows
 abbrev pub PolledInVain : PendingView → Why → PendingView → Type 0

@@ -48,9 +48,11 @@ pub fn poll_on(table: &FunnelTable, pass: &mut Pass, course: &mut Course) -> Cor
 {
     loop {
         match advance(table, pass, course) {
-            CoreStep::Going => lead_on(table, pass, course),
-            CoreStep::Ready(reply) => return CoreStep::Ready(reply),
-            CoreStep::NotYet(why) => return CoreStep::NotYet(why),
+            CoreStep::Going => match lead_on(table, pass, course) {
+                CoreStep::Going => {}
+                told => return told,
+            },
+            told => return told,
         }
     }
 }

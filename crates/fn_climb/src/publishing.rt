@@ -1,10 +1,10 @@
 // A batch that has its base is filled into a row and published, step by step.
-ghost use Rattle.std.specs.Prelude.{◌≡◌, List, None};
-ghost use Rattle.fn_core.specs.declared.Move.{Move as Moves};
+ghost use Rattle.std.specs.Prelude.{◌≡◌, None};
+ghost use Rattle.fn_core.specs.declared.answer.CoreStep.TheVariants as told;
 ghost use Rattle.fn_rows.specs.declared.Stage.TheVariants as stage;
 ghost use Rattle.fn_table.specs.Seen.{IsOf};
 ghost use Rattle.fn_climb.specs.Course.{Holds, pending_of};
-ghost use Rattle.fn_climb.specs.Turns.{GoesOn};
+ghost use Rattle.fn_climb.specs.Turns.{Ran};
 
 use crate::course::Course;
 use crate::row_words::spot_of;
@@ -13,13 +13,12 @@ use fn_rows::Stage;
 use fn_table::{FunnelTable, Pass, fill, head, point, publish};
 
 /// Where the call has got a base for its batch, takes the steps that fill its row and publish it.
+#[tactic(auto, using(crate::proofs::Sofar::ran_none))]
 #[inline(always)]
 pub fn publish_based(table: &FunnelTable, pass: &mut Pass, course: &mut Course)
     requires together { IsOf table.now pass.old }
     requires holds { Holds pass.old course.old }
-    ensures steps { (steps : List Moves) × GoesOn (pending_of pass.old course.old) steps pass.new }
-    ensures holds { Holds pass.new course.new }
-    ensures rows { course.new.rows ≡ course.old.rows }
+    ensures { Ran (pending_of pass.old course.old) told.Going pass.new course.new }
 {
     if course.word.is_none() {
         match course.stage {
@@ -43,9 +42,7 @@ fn publish_batch(
     requires holds { Holds pass.old course.old }
     requires free { course.old.word ≡ None }
     requires based { course.old.stage ≡ stage.Based at hi base }
-    ensures steps { (steps : List Moves) × GoesOn (pending_of pass.old course.old) steps pass.new }
-    ensures holds { Holds pass.new course.new }
-    ensures rows { course.new.rows ≡ course.old.rows }
+    ensures { Ran (pending_of pass.old course.old) told.Going pass.new course.new }
 {
     let (kind, level) = (course.kind, course.level);
     let row = spot_of(pass, course).row + course.rows[(level - 1) as usize];

@@ -150,9 +150,9 @@ fn decide(table: &FunnelTable, pass: &mut Pass, course: &mut Course, word: u64) 
     }
 }
 
-// Leaves the aggregator with the base of its batch, by which the call ends or goes down a level.
+/// Leaves the aggregator with the base of its batch, by which the call ends or goes down a level.
 #[inline(always)]
-fn come_down(
+pub fn come_down(
     table: &FunnelTable,
     pass: &mut Pass,
     course: &mut Course,

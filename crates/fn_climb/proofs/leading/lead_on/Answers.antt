@@ -1,16 +1,17 @@
-use Rattle.std.proofs.Common.{◌++◌, ◌∙◌}
-use Rattle.fn_climb.specs.Course.{pending_of}
-use Rattle.fn_climb.proofs.Sofar.{goes_both, along_rows}
+use Rattle.fn_climb.proofs.Sofar.{ran_more, ran_of}
 use Rattle.fn_climb.proofs.leading.lead_on.Goals as goal
 
-pub returns-clause-steps : goal.returns-clause-steps
-returns-clause-steps c =
-    let first = c.close_led.ensures.steps in
-    let more = c.publish_based.ensures.steps in (
-      first.0 ++ more.0,
-      goes_both (pending_of c.args.pass.now c.args.course.now) c.close_led.new.pass c.publish_based.new.pass first.0 more.0 first.1
-          (along_rows c.close_led.new.pass c.close_led.new.course.rows c.args.course.now.rows more.0 c.publish_based.new.pass c.close_led.ensures.rows more.1),
-    )
+pub publish_based-requires-clause-together : goal.publish_based-requires-clause-together
+publish_based-requires-clause-together c = ran_of c.requires.together c.close_led.ensures
 
-pub returns-clause-rows : goal.returns-clause-rows
-returns-clause-rows c = c.publish_based.ensures.rows ∙ c.close_led.ensures.rows
+pub leave_led-requires-clause-together : goal.leave_led-requires-clause-together
+leave_led-requires-clause-together c = ran_of (ran_of c.requires.together c.close_led.ensures) c.publish_based.ensures
+
+pub publish_based-requires-clause-holds : goal.publish_based-requires-clause-holds
+publish_based-requires-clause-holds c = c.close_led.ensures.ends.1.0
+
+pub leave_led-requires-clause-holds : goal.leave_led-requires-clause-holds
+leave_led-requires-clause-holds c = c.publish_based.ensures.ends.1.0
+
+pub returns : goal.returns
+returns c = ran_more c.close_led.ensures (ran_more c.publish_based.ensures c.leave_led.ensures)

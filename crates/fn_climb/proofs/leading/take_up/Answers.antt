@@ -1,10 +1,10 @@
-use Rattle.std.proofs.Common.{[], ◌∷◌, refl, ap, ◌∙◌}
+use Rattle.std.proofs.Common.{ap}
 use Rattle.fn_core.specs.declared.answer.CoreStep.TheVariants.{Going}
 use Rattle.fn_climb.specs.declared.course.Course.{Course}
 use Rattle.fn_climb.proofs.Underway.{may_at_stage}
 use Rattle.fn_climb.proofs.Moves.{closed}
 use Rattle.fn_climb.proofs.Goes.{moved}
-use Rattle.fn_climb.proofs.Sofar.{with_rows}
+use Rattle.fn_climb.proofs.Sofar.{ran_one, ran_more}
 use Rattle.fn_climb.proofs.leading.take_up.Goals as goal
 
 pub close_batch-hi-requires-clause-may : goal.close_batch-hi-requires-clause-may
@@ -19,14 +19,5 @@ go_up-requires-clause-free c = ap (λ (x : Course). x.word) c.go_to.ensures
 pub go_up-requires-clause-shut : goal.go_up-requires-clause-shut
 go_up-requires-clause-shut c = (c.args.at, c.close_batch-hi.result, ap (λ (x : Course). x.stage) c.go_to.ensures)
 
-pub returns-clause-steps : goal.returns-clause-steps
-returns-clause-steps c =
-    let first = (moved c.requires.holds c.requires.free (closed c.requires.holds c.requires.free c.requires.leads c.close_batch-hi.ensures)).0 in
-    let second = with_rows c.close_batch-hi.new.pass c.go_to.new.self.rows c.args.course.now.rows Going c.go_up.new.pass (ap (λ (x : Course). x.rows) c.go_to.ensures) c.go_up.ensures.0 in
-    (first.step ∷ second.step ∷ [], (c.close_batch-hi.new.pass, first, refl, (c.go_up.new.pass, second, refl, refl)))
-
-pub returns-clause-holds : goal.returns-clause-holds
-returns-clause-holds c = c.go_up.ensures.1.0
-
-pub returns-clause-rows : goal.returns-clause-rows
-returns-clause-rows c = c.go_up.ensures.1.1 ∙ ap (λ (x : Course). x.rows) c.go_to.ensures
+pub returns : goal.returns
+returns c = ran_more (ran_one Going (moved c.requires.holds c.requires.free (closed c.requires.holds c.requires.free c.requires.leads c.close_batch-hi.ensures))) (ran_one Going (rw c.go_to.ensures at c.go_up.ensures))

@@ -1,7 +1,7 @@
 use Rattle.std.proofs.Common.{arith}
 use Rattle.fn_climb.proofs.Underway.{may_at_stage}
 use Rattle.fn_climb.proofs.Moves.{level_low, level_high, row_fits}
-use Rattle.fn_climb.proofs.Batch.{based_few, may_lo, stores_lo, may_base, stores_base, may_prev, stores_prev, may_point, may_publish, ends_there, batch_goes, batch_holds}
+use Rattle.fn_climb.proofs.Batch.{based_few, may_lo, stores_lo, may_base, stores_base, may_prev, stores_prev, may_point, may_publish, ends_there, batch_ran}
 use Rattle.fn_climb.proofs.publishing.publish_batch.Goals as goal
 
 pub overflow_sub-row : goal.overflow_sub-row
@@ -57,10 +57,6 @@ pub publish-requires-clause-end : goal.publish-requires-clause-end
 publish-requires-clause-end c =
     ends_there c.requires.holds c.requires.free c.head-last.ensures c.requires.based c.spot_of.ensures c.fill.ensures.1 c.fill-2.ensures.1 c.fill-3.ensures.1 c.point.ensures.1
 
-pub returns-clause-steps : goal.returns-clause-steps
-returns-clause-steps c =
-    batch_goes c.requires.holds c.requires.free c.head-last.ensures c.requires.based c.spot_of.ensures c.fill.ensures.1 c.fill-2.ensures.1 c.fill-3.ensures.1 c.point.ensures.1 c.publish.ensures.1
-
-pub returns-clause-holds : goal.returns-clause-holds
-returns-clause-holds c =
-    rw c.go_to.ensures (batch_holds c.requires.holds c.requires.free c.head-last.ensures c.requires.based c.spot_of.ensures c.fill.ensures.1 c.fill-2.ensures.1 c.fill-3.ensures.1 c.point.ensures.1 c.publish.ensures.1)
+pub returns : goal.returns
+returns c =
+    rw c.go_to.ensures (batch_ran c.requires.holds c.requires.free c.head-last.ensures c.requires.based c.spot_of.ensures c.fill.ensures.1 c.fill-2.ensures.1 c.fill-3.ensures.1 c.point.ensures.1 c.publish.ensures.1)
