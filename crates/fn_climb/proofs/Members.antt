@@ -1,10 +1,9 @@
 -- The members of an aggregator in turn: between two of them stands none of its passes.
-use Rattle.std.proofs.Common.{◌≡◌, ◌≢◌, ℕ, zero, suc, ◌+◌, ◌*◌, ◌/◌, ◌%◌, ◌<◌, ◌≤◌, inl, inr, sym, ap, subst, ◌∙◌, arith, add-one}
+use Rattle.std.proofs.Common.{◌≡◌, ◌≢◌, ℕ, zero, suc, ◌+◌, ◌<◌, ◌≤◌, inl, inr, sym, ap, ◌∙◌, arith, add-one}
 use Rattle.std.proofs.lemmas.Bool.{cases_order}
-use Rattle.std.proofs.Math.Nat.{div-one}
 use Rattle.fn_layout.specs.declared.shape.Shape.{Shape}
-use Rattle.fn_layout.specs.Tree.{width, aggregator, members, member, pass_of, first_leaf, leaves_under}
-use Rattle.fn_layout.proofs.Members.{members_are_numbered, numbers_are_members, members_rise, pass_of-is}
+use Rattle.fn_layout.specs.Tree.{width, aggregator, members, member, pass_of}
+use Rattle.fn_layout.proofs.Members.{members_are_numbered, numbers_are_members, members_rise}
 
 -- the passes below this number were gone by, once so many members were
 abbrev pub passed : Shape → ℕ → ℕ → ℕ → ℕ
@@ -64,16 +63,3 @@ module _ (shape : Shape) (level index : ℕ) (inside : index < width shape level
     none = λ pass ahead before same.
         omega (arith, number_ahead number pass (omega (arith, last)) same ahead, (members_are_numbered shape pass level before).0, ap (members shape level) same, last);
   }
-
--- the passes of a leaf stand as far apart as there are leaves, and the first of them has the leaf's index
-pub pass_of_leaf : (shape : Shape) (level index number leaves : ℕ) → level ≡ 1 → index < width shape level → number < members shape level index → leaves ≡ shape.leaves
-    → (number * leaves + index ≡ pass_of shape level index number) × (number * leaves + index < shape.passes)
-pass_of_leaf shape level index number leaves one inside few all =
-    let leaf : index < shape.leaves = subst (λ (l : ℕ). index < width shape l) one inside in
-    let first : index ≡ first_leaf 1 index = omega arith in
-    let under : 1 ≡ leaves_under shape 1 index = omega (arith, leaf) in
-    let whole : number / 1 ≡ number = div-one number in
-    let rest : number % 1 ≡ 0 = omega arith in
-    let same : number * leaves + index ≡ number / 1 * shape.leaves + (index + number % 1) = (λ i. sym whole i * all i + index) ∙ (let e : number / 1 * shape.leaves + index ≡ number / 1 * shape.leaves + (index + number % 1) = omega (arith, rest) in e) in
-    let is : number * leaves + index ≡ pass_of shape level index number = same ∙ pass_of-is shape 1 index number 1 index under first ∙ ap (λ (l : ℕ). pass_of shape l index number) (sym one) in
-    (is, omega (arith, is, (numbers_are_members shape level index number inside few).0))

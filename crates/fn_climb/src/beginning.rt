@@ -1,10 +1,9 @@
 //! How a call begins: it finds a row at each level, and arrives at its leaf.
 ghost use Rattle.std.specs.Prelude.{◌≡◌, ◌<◌, IfOk, IfErr};
-ghost use Rattle.fn_layout.specs.Tree.{IsLevel, width, members, pass_of};
-ghost use Rattle.fn_layout.specs.Words.{IsSlot};
+ghost use Rattle.fn_layout.specs.Tree.{IsLevel};
 ghost use Rattle.fn_core.specs.Machine.{IsChange, MaySpend};
 ghost use Rattle.fn_core.specs.Calls.{state_in, IsIdle};
-ghost use Rattle.fn_table.specs.Seen.{IsOf, own_of};
+ghost use Rattle.fn_table.specs.Seen.{IsOf};
 ghost use Rattle.fn_climb.specs.declared.beginning.Begun.TheVariants as begun;
 ghost use Rattle.fn_climb.specs.Course.{Holds, pending_of};
 ghost use Rattle.fn_climb.specs.Begin.{AreOpen, Arrived, BeginAnswers, RowTried, LevelTried, RowsTried};
@@ -13,7 +12,7 @@ use crate::course::{Batch, Course};
 use crate::pending::Pending;
 use crate::row_words::shape_of;
 use fn_core::Blocked;
-use fn_layout::{Kind, Shape};
+use fn_layout::Kind;
 use fn_rows::{Stage, lets};
 use fn_table::{FunnelTable, Pass, announce, arrive, scan, see};
 
@@ -159,7 +158,7 @@ fn try_row(
     let shape = shape_of(table, pass);
     let spot = pass.spot(kind, level);
     for member in 0..spot.members {
-        let other = member_of(shape, level, spot.index, member);
+        let other = shape.pass_of(level, spot.index, member);
         if other == number {
             continue;
         }
@@ -174,19 +173,4 @@ fn try_row(
         }
     }
     None
-}
-
-// The pass with this number among those of an aggregator; at a leaf it is found with no division.
-#[inline(always)]
-fn member_of(shape: Shape, level: u32, index: u32, number: u32) -> u32
-    requires level { IsLevel shape level }
-    requires index { index < width shape level }
-    requires number { number < members shape level index }
-    ensures exact { result ≡ pass_of shape level index number }
-    ensures in_range { result < shape.passes }
-{
-    match level {
-        1 => number * shape.leaves() + index,
-        _ => shape.pass_of(level, index, number),
-    }
 }

@@ -11,14 +11,14 @@ returns-then-end-eq0 c = row_unused c.args.pass.now c.args.kind c.args.level c.a
 pub loop-member-init : goal.loop-member-init
 loop-member-init c = row_start c.args.pass.now c.args.kind c.args.level c.args.row c.number-number.ensures.legal
 
-pub member_of-other-requires-clause-index : goal.member_of-other-requires-clause-index
-member_of-other-requires-clause-index c =
+pub pass_of-other-requires-clause-index_in_range : goal.pass_of-other-requires-clause-index_in_range
+pass_of-other-requires-clause-index_in_range c =
     let p = c.args.pass.now in
     rw (c.shape_of-shape.ensures, c.spot-spot.ensures) (aggregator_below p.seen.start.shape p.number c.args.level)
 
 pub loop-member-preserved-then-other-number : goal.loop-member-preserved-then-other-number
 loop-member-preserved-then-other-number c =
-    let at = is_member c.args.pass.now c.args.kind c.args.level c.args.row c.shape_of-shape.ensures c.spot-spot.ensures c.loop-member-test.true c.member_of-other.ensures.exact in
+    let at = is_member c.args.pass.now c.args.kind c.args.level c.args.row c.shape_of-shape.ensures c.spot-spot.ensures c.loop-member-test.true c.pass_of-other.ensures.exact in
     member_skip c.args.pass.now c.args.kind c.args.level c.args.row at c.loop-member.invariant (c.if-other-number.true ∙ c.number-number.ensures.number)
 
 pub scan-word-requires-clause-together : goal.scan-word-requires-clause-together
@@ -26,20 +26,20 @@ scan-word-requires-clause-together c = of_still c.args.table.now c.args.pass.now
 
 pub scan-word-requires-clause-may : goal.scan-word-requires-clause-may
 scan-word-requires-clause-may c =
-    let at = is_member c.args.pass.now c.args.kind c.args.level c.args.row c.shape_of-shape.ensures c.spot-spot.ensures c.loop-member-test.true c.member_of-other.ensures.exact in
+    let at = is_member c.args.pass.now c.args.kind c.args.level c.args.row c.shape_of-shape.ensures c.spot-spot.ensures c.loop-member-test.true c.pass_of-other.ensures.exact in
     let inside = rw c.number-number.ensures.number at c.number-number.ensures.in_range in
     let level = rw (← c.requires.together.1) at c.requires.level in
     member_may c.args.pass.now c.args.kind c.args.level c.args.row at c.loop-member.invariant (λ same. c.if-other-number.false (same ∙ sym c.number-number.ensures.number)) inside c.requires.idle c.requires.change level
 
 pub returns-then-not-lets : goal.returns-then-not-lets
 returns-then-not-lets c =
-    let at = is_member c.args.pass.now c.args.kind c.args.level c.args.row c.shape_of-shape.ensures c.spot-spot.ensures c.loop-member-test.true c.member_of-other.ensures.exact in
+    let at = is_member c.args.pass.now c.args.kind c.args.level c.args.row c.shape_of-shape.ensures c.spot-spot.ensures c.loop-member-test.true c.pass_of-other.ensures.exact in
     let blocked = rw c.row_end-end.ensures at (blocks_where c.scan-word.result c.row_end-end.result c.lets.result c.lets.ensures c.if-not-lets.true) in
     member_stop c.args.pass.now c.args.kind c.args.level c.args.row at c.loop-member.invariant (λ same. c.if-other-number.false (same ∙ sym c.number-number.ensures.number)) c.scan-word.ensures (λ never. c.if-end-eq0.false (c.row_end-end.ensures ∙ never)) blocked
 
 pub loop-member-preserved : goal.loop-member-preserved
 loop-member-preserved c =
-    let at = is_member c.args.pass.now c.args.kind c.args.level c.args.row c.shape_of-shape.ensures c.spot-spot.ensures c.loop-member-test.true c.member_of-other.ensures.exact in
+    let at = is_member c.args.pass.now c.args.kind c.args.level c.args.row c.shape_of-shape.ensures c.spot-spot.ensures c.loop-member-test.true c.pass_of-other.ensures.exact in
     let holds = rw c.row_end-end.ensures at (c.lets.ensures.0 c.if-not-lets.false) in
     let lets_it = rw c.row_end-end.ensures at (lets_where c.scan-word.result c.row_end-end.result c.lets.result c.lets.ensures c.if-not-lets.false) in
     member_more c.args.pass.now c.args.kind c.args.level c.args.row at c.loop-member.invariant (λ same. c.if-other-number.false (same ∙ sym c.number-number.ensures.number)) c.scan-word.ensures holds lets_it
