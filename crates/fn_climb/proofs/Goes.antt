@@ -4,7 +4,7 @@ use Rattle.std.specs.Prelude.{◌==◌, ◌&&◌, if◌then◌else◌, nat_lt}
 use Rattle.std.proofs.lemmas.Bool.{eq-eqb, ne_eqb, lt-ltb, le-ltb, false≢true}
 use Rattle.fn_model.specs.declared.Kind.{Kind}
 use Rattle.fn_rows.specs.declared.Stage.{Stage}
-use Rattle.fn_rows.specs.declared.Stage.TheVariants.{Out, Saw, Told, Waiting, Lead, Late, Shut, Based, Headed, FilledLo, FilledBase, Filled, Pointed, At, Over, Hit, Got}
+use Rattle.fn_rows.specs.declared.Stage.TheVariants.{Out, Waiting, Lead, Late, Shut, Got}
 use Rattle.fn_rows.specs.Machine.{looked}
 use Rattle.fn_core.specs.declared.Start.{Start}
 use Rattle.fn_core.specs.declared.Move.{Move}
@@ -62,19 +62,7 @@ goes_left Out there waiting shut got = absurd (false≢true (sym there))
 goes_left (Waiting a) there waiting shut got = absurd (waiting a refl)
 goes_left (Shut a b) there waiting shut got = absurd (shut a b refl)
 goes_left (Got a b) there waiting shut got = absurd (got a b refl)
-goes_left (Saw a) there waiting shut got = refl
-goes_left (Told a) there waiting shut got = refl
-goes_left (Lead a) there waiting shut got = refl
-goes_left (Late a) there waiting shut got = refl
-goes_left (Based a b x) there waiting shut got = refl
-goes_left (Headed a b x y) there waiting shut got = refl
-goes_left (FilledLo a b x y z) there waiting shut got = refl
-goes_left (FilledBase a b x y z) there waiting shut got = refl
-goes_left (Filled a b x y) there waiting shut got = refl
-goes_left (Pointed a b x y) there waiting shut got = refl
-goes_left (At a b) there waiting shut got = refl
-goes_left (Over a b) there waiting shut got = refl
-goes_left (Hit a b x) there waiting shut got = refl
+goes_left g there waiting shut got = refl
 
 -- what a look shows
 waits_still : (at n : ℕ) → n < at → looked at n ≡ Waiting at

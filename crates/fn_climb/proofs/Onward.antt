@@ -6,14 +6,14 @@ use mathlib.Core.List.{IsPrefix}
 use Rattle.running.proofs.Logs.{none_after}
 use Rattle.fn_model.specs.declared.Kind.{Kind}
 use Rattle.fn_model.specs.Calls.{place as place_of}
-use Rattle.fn_rows.specs.declared.Field.TheVariants.{Lo, Base, Prev}
+use Rattle.fn_rows.specs.declared.Field.TheVariants.{Lo}
 use Rattle.fn_layout.specs.Tree.{IsLevel, aggregator, member, members}
 use Rattle.fn_core.specs.declared.Event.{Event}
 use Rattle.fn_core.specs.declared.Start.{Start}
 use Rattle.fn_core.specs.declared.Move.{Move}
-use Rattle.fn_core.specs.declared.Move.TheVariants.{Scan, See, Announce, Arrive, Look, Close, Apply, Head, Fill, Point, Publish, Peek, Leave, Load, Exchange, Direct, Glance}
+use Rattle.fn_core.specs.declared.Move.TheVariants.{See, Fill}
 use Rattle.fn_core.specs.declared.Position.{Position}
-use Rattle.fn_core.specs.declared.Position.TheVariants.{Resting, Climbing, Deciding, Trying}
+use Rattle.fn_core.specs.declared.Position.TheVariants.{Climbing}
 use Rattle.fn_core.specs.declared.answer.CoreStep.{CoreStep}
 use Rattle.fn_core.specs.declared.answer.CoreStep.TheVariants as told
 use Rattle.fn_core.specs.State.{State, opened, history_in}
@@ -40,24 +40,7 @@ use Rattle.fn_climb.specs.Steps.{HasSameCall, HasReplied, Went}
 begins_not : (start : Start) (s : State) (pass : ℕ) (step : Move) (kind k : Kind) (level : ℕ) (word : Option ℕ) → (s.callers pass).position ≡ position_by k level word → Allowed start s (event pass step) → Begins step kind → ⊥
 begins_not start s pass (See l (suc zero)) kind k level None is allowed begins = cc (is, allowed.1.0)
 begins_not start s pass (See l (suc zero)) kind k level (Some w) is allowed begins = cc (is, allowed.1.0)
-begins_not start s pass (See l zero) kind k level word is allowed begins = begins
-begins_not start s pass (See l (suc (suc below))) kind k level word is allowed begins = begins
-begins_not start s pass (Scan l j other) kind k level word is allowed begins = begins
-begins_not start s pass (Announce l j) kind k level word is allowed begins = begins
-begins_not start s pass (Arrive l j weight) kind k level word is allowed begins = begins
-begins_not start s pass (Look l j) kind k level word is allowed begins = begins
-begins_not start s pass (Close l j) kind k level word is allowed begins = begins
-begins_not start s pass (Apply weight) kind k level word is allowed begins = begins
-begins_not start s pass (Head l j) kind k level word is allowed begins = begins
-begins_not start s pass (Fill row field) kind k level word is allowed begins = begins
-begins_not start s pass (Point l j row) kind k level word is allowed begins = begins
-begins_not start s pass (Publish l j) kind k level word is allowed begins = begins
-begins_not start s pass (Peek row field) kind k level word is allowed begins = begins
-begins_not start s pass (Leave l j) kind k level word is allowed begins = begins
-begins_not start s pass (Load purpose) kind k level word is allowed begins = begins
-begins_not start s pass (Exchange l amount) kind k level word is allowed begins = begins
-begins_not start s pass (Direct amount) kind k level word is allowed begins = begins
-begins_not start s pass Glance kind k level word is allowed begins = begins
+begins_not start s pass step kind k level word is allowed begins = begins
 
 -- a row that the pass may fill is told by its own
 free_is_own : (start : Start) (s t : State) (pass : ℕ) → own start t pass ≡ own start s pass → (kind : Kind) (level r : ℕ) → IsFreeFor start s pass kind level r → IsFreeFor start t pass kind level r
@@ -101,27 +84,7 @@ replied_by old q (told.NotYet why) f legal = tt
 -- the next step is the one that the order tells, or the first Fill in the row that was kept
 kept_cases : (q : PendingView) (m : Move) (position : Position) (step : Move) → in_kept_row q m position ≡ step → (m ≡ step) ⊎ ((first row : ℕ) × (m ≡ Fill first Lo) × (step ≡ Fill row Lo))
 kept_cases q (Fill first Lo) (Climbing kind level) step is = inr (first, kept_row q kind level, refl, sym is)
-kept_cases q (Fill first Lo) (Deciding kind level word) step is = inl is
-kept_cases q (Fill first Lo) Resting step is = inl is
-kept_cases q (Fill first Lo) (Trying word) step is = inl is
-kept_cases q (Fill first Base) position step is = inl is
-kept_cases q (Fill first Prev) position step is = inl is
-kept_cases q (Scan l j other) position step is = inl is
-kept_cases q (See l j) position step is = inl is
-kept_cases q (Announce l j) position step is = inl is
-kept_cases q (Arrive l j weight) position step is = inl is
-kept_cases q (Look l j) position step is = inl is
-kept_cases q (Close l j) position step is = inl is
-kept_cases q (Apply weight) position step is = inl is
-kept_cases q (Head l j) position step is = inl is
-kept_cases q (Point l j row) position step is = inl is
-kept_cases q (Publish l j) position step is = inl is
-kept_cases q (Peek row field) position step is = inl is
-kept_cases q (Leave l j) position step is = inl is
-kept_cases q (Load purpose) position step is = inl is
-kept_cases q (Exchange l amount) position step is = inl is
-kept_cases q (Direct amount) position step is = inl is
-kept_cases q Glance position step is = inl is
+kept_cases q m position step is = inl is
 
 pub next_cases : (q : PendingView) (step : Move) → IsNext q step → (next_step q.pass ≡ step) ⊎ ((first row : ℕ) × (next_step q.pass ≡ Fill first Lo) × (step ≡ Fill row Lo))
 next_cases q step is = kept_cases q (next_step q.pass) (own_of q.pass).caller.position step is

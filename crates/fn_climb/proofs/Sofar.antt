@@ -7,7 +7,7 @@ use mathlib.Core.List.{IsPrefix}
 use Rattle.running.proofs.Logs.{prefix_refl}
 use Rattle.fn_model.specs.declared.Kind.{Kind}
 use Rattle.fn_rows.specs.declared.Stage.{Stage}
-use Rattle.fn_rows.specs.declared.Stage.TheVariants.{Out, Saw, Told, Waiting, Lead, Late, Shut, Based, Headed, FilledLo, FilledBase, Filled, Pointed, At, Over, Hit, Got}
+use Rattle.fn_rows.specs.declared.Stage.TheVariants.{Out}
 use Rattle.fn_layout.specs.Tree.{aggregator, members}
 use Rattle.fn_core.specs.declared.Event.{Event}
 use Rattle.fn_core.specs.declared.Start.{Start}
@@ -40,22 +40,7 @@ all_rows start pass level inside = mul-le (members start.shape level (aggregator
 -- a member that stands somewhere has a step left
 rank_some : (n visited : ℕ) (g : Stage) → is_out g ≡ false → 1 ≤ rank n visited g
 rank_some n visited Out is = absurd (false≢true (sym is))
-rank_some n visited (Saw seen) is = omega arith
-rank_some n visited (Told seen) is = omega arith
-rank_some n visited (Waiting at) is = omega arith
-rank_some n visited (Lead at) is = omega arith
-rank_some n visited (Late at) is = omega arith
-rank_some n visited (Shut at hi) is = omega arith
-rank_some n visited (Based at hi b) is = omega arith
-rank_some n visited (Headed at hi b h) is = omega arith
-rank_some n visited (FilledLo at hi b h r) is = omega arith
-rank_some n visited (FilledBase at hi b h r) is = omega arith
-rank_some n visited (Filled at hi b r) is = omega arith
-rank_some n visited (Pointed at hi b r) is = omega arith
-rank_some n visited (At at r) is = omega arith
-rank_some n visited (Over at r) is = omega arith
-rank_some n visited (Hit at r lo) is = omega arith
-rank_some n visited (Got b ahead) is = omega arith
+rank_some n visited g is = omega arith
 
 -- so a call has a step left
 some_left : (core : CoreLog) (p n : ℕ) → IsLegal core → p < core.start.shape.passes → HasCall core p → 1 ≤ steps_left core.start (state_in core) p n
