@@ -46,17 +46,13 @@ main_fits start log weight main ok is within = let c : start.cap ≤ 92233720368
 fits : (start : Start) (log : List Event) (pass : ℕ) (step : Move) (weight : ℕ) → let event : Event = record { pass = pass; step = step } in
     IsLegal funnel start log → MayTake start (own_of funnel start log pass) event → addition step ≡ Some weight → found funnel start log event + weight < 2 ^ 63
 fits start log pass (Arrive kind zero w) weight legal guard is = absurd ((guards_are_own start (state_of funnel start log) (record { pass = pass; step = Arrive kind 0 w }) guard).1.1)
-fits start log pass (Arrive kind (suc below) w) weight legal guard is =
-    let e : w ≡ weight = cc in
-    subst (λ (x : ℕ). found funnel start log (record { pass = pass; step = Arrive kind (suc below) w }) + x < 2 ^ 63) e (arrival_fits start log pass kind below w legal guard)
+fits start log pass (Arrive kind (suc below) w) weight legal guard is = let e : w ≡ weight = cc in omega (arith, e, arrival_fits start log pass kind below w legal guard)
 fits start log pass (Apply w) weight legal guard is =
     let e : w ≡ weight = cc in
-    subst (λ (x : ℕ). found funnel start log (record { pass = pass; step = Apply w }) + x < 2 ^ 63) e
-    (main_fits start log w (found funnel start log (record { pass = pass; step = Apply w })) guard.0 (word_found start (state_of funnel start log) Main tt) (within_after start log (record { pass = pass; step = Apply w }) legal guard))
+    omega (arith, e, main_fits start log w (found funnel start log (record { pass = pass; step = Apply w })) guard.0 (word_found start (state_of funnel start log) Main tt) (within_after start log (record { pass = pass; step = Apply w }) legal guard))
 fits start log pass (Direct w) weight legal guard is =
     let e : w ≡ weight = cc in
-    subst (λ (x : ℕ). found funnel start log (record { pass = pass; step = Direct w }) + x < 2 ^ 63) e
-    (main_fits start log w (found funnel start log (record { pass = pass; step = Direct w })) guard.0 (word_found start (state_of funnel start log) Main tt) (within_after start log (record { pass = pass; step = Direct w }) legal guard))
+    omega (arith, e, main_fits start log w (found funnel start log (record { pass = pass; step = Direct w })) guard.0 (word_found start (state_of funnel start log) Main tt) (within_after start log (record { pass = pass; step = Direct w }) legal guard))
 fits start log pass _ weight legal guard is = cc
 
 pub additions_fit : AdditionsFit

@@ -1,5 +1,5 @@
 -- One seat gathers passes.
-use Rattle.std.proofs.Common.{◌≡◌, ℕ, suc, ◌<◌, List, [], ◌∷◌, ◌++◌, length, map, All, refl, sym, ap, ◌∙◌, subst, arith}
+use Rattle.std.proofs.Common.{◌≡◌, ℕ, ◌<◌, List, [], ◌∷◌, ◌++◌, length, map, refl, sym, ap, ◌∙◌, subst, arith}
 use Rattle.atomic_table.specs.Table.{Me, Enters}
 use Rattle.atomic_table.specs.Seated.{TableId}
 use Rattle.atomic_table.specs.declared.shared.Seat.{Seat}
@@ -18,12 +18,6 @@ sits key slots word = enters funnel key slots word (λ n w. w ≡ knows key [] (
 -- it has a part
 pub gathering_has : (z : TableId) (b : Start) (ps : List PassView) (s : Seat (Unit {0}) Known) → IsGathering z b ps s → 0 < length s.me.0.parts
 gathering_has z b ps s g = subst (λ qs. 0 < length qs) (sym g.parts) (omega arith)
-
-pub all_head : (P : PassView → Type 0) (xs ys : List PassView) (x : PassView) → All P xs → xs ≡ x ∷ ys → P x
-all_head P xs ys x h is = let k : All P (x ∷ ys) = subst (All P) is h in k 0 x (omega arith)
-
-pub all_tail : (P : PassView → Type 0) (xs ys : List PassView) (x : PassView) → All P xs → xs ≡ x ∷ ys → All P ys
-all_tail P xs ys x h is = let k : All P (x ∷ ys) = subst (All P) is h in λ i d l. k (suc i) d (omega arith)
 
 -- and with one pass more
 pub gathers : (z z' : TableId) (b : Start) (ps : List PassView) (s s' : Seat (Unit {0}) Known) (p : PassView) (n : ℕ) (v : Known) → IsGathering z b ps s → shown z' n v ≡ p → HasOne n v

@@ -3,9 +3,8 @@ use Rattle.std.proofs.Common.{◌≡◌, ℕ, zero, suc, ◌+◌, ◌-◌, ◌<�
 use Rattle.std.specs.Prelude.{replicate}
 use Rattle.running.specs.Running.{numbers_from, upto}
 use Rattle.running.proofs.Numbers.{numbers_more}
-use Rattle.fn_layout.specs.Words.{Name, Main, Value, Last, Done, Announcement, RowWord, number, read, words}
+use Rattle.fn_layout.specs.Words.{Name, number, read, words}
 use Rattle.fn_layout.proofs.Read.{numbers_are_named}
-use Rattle.fn_rows.specs.declared.Field.TheVariants.{Lo, Base, Prev}
 use Rattle.fn_core.specs.declared.Start.{Start}
 use Rattle.fn_core.specs.State.{State, opened}
 use Rattle.fn_core.specs.Words.{word, words_of, list_of}
@@ -20,14 +19,7 @@ zeros (suc n) = ap (λ (xs : List ℕ). 0 ∷ xs) (zeros n)
 
 -- each word but main is 0
 empty_word : (start : Start) (name : Name) (n : ℕ) → number start.shape name ≡ n → 0 < n → word start (opened start) name ≡ 0
-empty_word start Main n is some = absurd (let e : 0 ≡ n = is in omega arith)
-empty_word start (Value kind level index) n is some = refl
-empty_word start (Last kind level index) n is some = refl
-empty_word start (Done kind level index) n is some = refl
-empty_word start (Announcement pass kind level) n is some = refl
-empty_word start (RowWord pass kind level row Lo) n is some = refl
-empty_word start (RowWord pass kind level row Base) n is some = refl
-empty_word start (RowWord pass kind level row Prev) n is some = refl
+empty_word start name n is some = grind arith
 
 pub first_words_are : (start : Start) → words_of start (opened start) ≡ slice_set (replicate (words start.shape) 0) 0 start.opening
 first_words_are start =

@@ -6,7 +6,6 @@ use Rattle.running.specs.Running.{times, numbers_of, log_of, view, knows, Runnin
 use Rattle.running.specs.Machine as machine
 use Rattle.running.proofs.Logs.{legal_begins, own_same, guard_at}
 use Rattle.running.proofs.Keeps.{takes, ready_one}
-use Rattle.fn_layout.specs.declared.shape.Shape.{Shape}
 use Rattle.fn_layout.specs.Words.{IsNamed, number}
 use Rattle.fn_core.specs.declared.Start.{Start}
 use Rattle.fn_core.specs.declared.Event.{Event}
@@ -18,10 +17,10 @@ use Rattle.fn_core.specs.After.{own_after}
 use Rattle.fn_core.specs.Calls.{state_in, IsLegal}
 use Rattle.fn_core.proofs.Public.{words_are_found}
 use Rattle.fn_table.specs.Funnel.{MayTake, funnel}
-use Rattle.fn_table.specs.Seen.{TableView, PassView, IsOf, May, Stepped, own_of, event, place}
+use Rattle.fn_table.specs.Seen.{PassView, May, Stepped, own_of, event, place}
 use Rattle.fn_table.specs.declared.spots.Spots.{Spots}
 use Rattle.fn_table.specs.Spots.{spots_of}
-use Rattle.fn_table.specs.Seats.{Known, shown, HasOne, IsStep, taken_by}
+use Rattle.fn_table.specs.Seats.{Known, shown, HasOne, IsStep, IsHere, taken_by}
 use Rattle.fn_table.proofs.FunnelLaws.{laws, logs_are_legal, guards_are_own, steps_are_told}
 use Rattle.fn_table.proofs.States.{own_is, is_legal}
 
@@ -62,23 +61,20 @@ ready z n v step f one legal may does =
     (ready_one funnel laws v.start (n ∷ []) (log_of v.parts) (event n step) (place p step) f (keeps_one n) refl (may_take_after p step legal may)
     (λ log ok same. does.change may log ok (same ∙ own_is v.start (log_of v.parts) n) ∙ ap (λ (o : Own). funnel.change v.start o (event n step) (machine.found funnel v.start log (event n step))) (sym (own_is v.start (log_of v.parts) n))))
 
--- what an operation that finds a number owes
-pub finding_keeps : (key : Start) (slots id : ℕ) (me : Me (Unit {0}) Known) (z : TableId) (n : ℕ) (p : PassView) (step : Move) (at : ℕ) (f : ℕ → ℕ)
-    → shown z n me.0 ≡ p → HasOne n me.0 → IsLegal (shown z n me.0).seen → May p step → at ≡ place p step → IsStep p step f
-    → Allows (Running funnel key) slots id me at f (λ k after. TookAt funnel (event_of me.0 step) me.0 k after.0 × (after.1 ≡ me.1))
-finding_keeps key slots id me z n p step at f is one legal may there does =
-    let r = subst (λ q. May q step → IsStep q step f → Ready funnel me.0 (event_of me.0 step) (place q step) f) is (ready z n me.0 step f one legal) may does in
-    takes funnel laws key slots id me (event_of me.0 step) at f (λ k after. TookAt funnel (event_of me.0 step) me.0 k after.0 × (after.1 ≡ me.1))
-    (subst (λ w. Ready funnel me.0 (event_of me.0 step) w f) (sym there) r) (λ k w t. (t, refl))
+-- a step that is taken found some number
+pub took_some : {e : Event} {v w : Known} (k : ℕ) → TookAt funnel e v k w → (n : ℕ) × TookAt funnel e v n w
+took_some k t = (k, t)
 
--- .. and one that stores
-pub storing_keeps : (key : Start) (slots id : ℕ) (me : Me (Unit {0}) Known) (z : TableId) (n : ℕ) (p : PassView) (step : Move) (at : ℕ) (f : ℕ → ℕ)
-    → shown z n me.0 ≡ p → HasOne n me.0 → IsLegal (shown z n me.0).seen → May p step → at ≡ place p step → IsStep p step f
-    → Allows (Running funnel key) slots id me at f (λ k after. ((n : ℕ) × TookAt funnel (event_of me.0 step) me.0 n after.0) × (after.1 ≡ me.1))
-storing_keeps key slots id me z n p step at f is one legal may there does =
-    let r = subst (λ q. May q step → IsStep q step f → Ready funnel me.0 (event_of me.0 step) (place q step) f) is (ready z n me.0 step f one legal) may does in
-    takes funnel laws key slots id me (event_of me.0 step) at f (λ k after. ((n : ℕ) × TookAt funnel (event_of me.0 step) me.0 n after.0) × (after.1 ≡ me.1))
-    (subst (λ w. Ready funnel me.0 (event_of me.0 step) w f) (sym there) r) (λ k w t. ((k, t), refl))
+-- what an operation on the word of a step owes, where each way to take the step ends in Q
+pub owes : (key : Start) (slots id : ℕ) (me : Me (Unit {0}) Known) (z : TableId) (n : ℕ) {z' : TableId} {p : PassView} {step : Move} {at : ℕ} {f : ℕ → ℕ} (Q : ℕ → Known → Type 0)
+    → shown z n me.0 ≡ p → HasOne n me.0 → IsLegal (shown z n me.0).seen → May p step → IsHere z' at p step → IsStep p step f → ((k : ℕ) (w : Known) → TookAt funnel (event_of me.0 step) me.0 k w → Q k w)
+    → (z ≡ z') × (at < z'.words) × Allows (Running funnel key) slots id me at f (λ k after. Q k after.0 × (after.1 ≡ me.1))
+owes key slots id me z n {step = step} {at = at} {f = f} Q is one legal may here does ends =
+    let r = subst (λ q. May q step → IsStep q step f → Ready funnel me.0 (event_of me.0 step) (place q step) f) is (ready z n me.0 step f one legal) may does in (
+      ap (λ (q : PassView). q.table) is ∙ here.table,
+      here.inside,
+      takes funnel laws key slots id me (event_of me.0 step) at f (λ k after. Q k after.0 × (after.1 ≡ me.1)) (subst (λ w. Ready funnel me.0 (event_of me.0 step) w f) (sym here.place) r) (λ k w t. (ends k w t, refl)),
+    )
 
 -- after a log in which the event may happen, the number found is the word of its name
 pub word_there : (start : Start) (log : List Event) (pass : ℕ) (step : Move) → machine.IsLegal funnel start log → MayTake start (machine.own_of funnel start log pass) (event pass step)
@@ -145,7 +141,3 @@ legal_before p q step n s =
     let whole = legal_begins funnel start s.before (event p.number step ∷ []) (is_legal start (s.before ++ event p.number step ∷ []) now.0 now.1) in
     let (ys, front) = s.begins in
     (now.0, (logs_are_legal start p.seen.log (legal_begins funnel start p.seen.log ys (subst (machine.IsLegal funnel start) (sym front) whole))).0)
-
--- a pass and its table have one shape
-pub one_shape : (t u : TableView) (p q : PassView) (shape : Shape) → u ≡ t → u.start.shape ≡ shape → q ≡ p → IsOf t p → q.seen.start.shape ≡ shape
-one_shape t u p q shape table is pass of = ap (λ (x : PassView). x.seen.start.shape) pass ∙ ap (λ (b : Start). b.shape) of.1 ∙ sym (ap (λ (x : TableView). x.start.shape) table) ∙ is

@@ -1,6 +1,6 @@
 -- What a pass keeps while others step: its own, and its own calls.
 use Rattle.std.proofs.Common.{◌≡◌, ℕ, zero, suc, ◌+◌, ◌<◌, List, [], ◌∷◌, map, Some, All, slice_get, sym, ◌∙◌, ap, subst, arith}
-use Rattle.std.proofs.lemmas.List.Elements.{All-head, All-tail}
+use Rattle.std.proofs.lemmas.Option.{get_or_from_slice_get, slice_get_within}
 use mathlib.Core.List.{IsPrefix}
 use Rattle.running.specs.Running.{numbers_from}
 use Rattle.running.proofs.Logs.{own_same}
@@ -75,9 +75,7 @@ module _ (p : PassView) (step : Move) (n : ℕ) (q : PassView) (stepped : Steppe
 
 -- a list of passes, one at a place
 all_at : (P : PassView → Type 0) (ps : List PassView) (k : ℕ) (p : PassView) → All P ps → slice_get ps k ≡ Some p → P p
-all_at P [] k p all is = absurd (cc)
-all_at P (q ∷ ps) zero p all is = let same : q ≡ p = cc in subst P same (All-head P q ps all)
-all_at P (q ∷ ps) (suc k) p all is = all_at P ps k p (All-tail P q ps all) is
+all_at P ps k p all is = subst P (get_or_from_slice_get ps k p p is) (all k p (slice_get_within ps k p is))
 
 number_below : (first count : ℕ) (ps : List PassView) (k : ℕ) (p : PassView) → map (λ (q : PassView). q.number) ps ≡ numbers_from first count → slice_get ps k ≡ Some p → p.number < first + count
 number_below first count [] k p numbers is = absurd (cc)

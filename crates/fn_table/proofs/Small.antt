@@ -1,12 +1,12 @@
 -- The numbers that steps store and add stay below 2^63.
-use Rattle.std.proofs.Common.{◌≡◌, ℕ, zero, suc, ◌+◌, ◌%◌, ◌^◌, ◌<◌, ◌≤◌, subst, sym, ap, ◌∙◌, arith}
+use Rattle.std.proofs.Common.{◌≡◌, ℕ, zero, suc, ◌+◌, ◌%◌, ◌^◌, ◌<◌, ◌≤◌, subst, sym, ◌∙◌, arith}
 use Rattle.std.specs.Prelude.{Some}
 use Rattle.fn_model.specs.declared.Kind.{Kind}
 use Rattle.fn_rows.specs.declared.Stage.TheVariants.{Saw}
 use Rattle.running.specs.Machine as machine
 use Rattle.fn_layout.specs.Tree.{aggregator, member}
 use Rattle.fn_core.specs.declared.Move.{Move}
-use Rattle.fn_core.specs.declared.Move.TheVariants.{Announce, Arrive, Apply, Direct}
+use Rattle.fn_core.specs.declared.Move.TheVariants.{Announce}
 use Rattle.fn_core.specs.declared.Start.{Start}
 use Rattle.fn_core.specs.Words.{Own, change}
 use Rattle.fn_core.specs.Calls.{IsLegal}
@@ -33,10 +33,7 @@ small_mod n h = omega arith
 
 -- what an addition makes of the number found
 adds_all : (start : Start) (o : Own) (pass : ℕ) (step : Move) (amount n : ℕ) → addition step ≡ Some amount → change start o pass step n ≡ n + amount
-adds_all start o pass (Arrive kind level w) amount n is = let e : w ≡ amount = cc in ap (λ (x : ℕ). n + x) e
-adds_all start o pass (Apply w) amount n is = let e : w ≡ amount = cc in ap (λ (x : ℕ). n + x) e
-adds_all start o pass (Direct w) amount n is = let e : w ≡ amount = cc in ap (λ (x : ℕ). n + x) e
-adds_all start o pass _ amount n is = cc
+adds_all start o pass step amount n is = grind arith
 
 -- additions don't wrap
 pub adds : (p : PassView) (step : Move) (amount : ℕ) → IsLegal p.seen → addition step ≡ Some amount → IsStep p step (λ n. (n + amount) % 2 ^ 64)

@@ -1,15 +1,14 @@
-use Rattle.std.proofs.Common.{ap, ◌∙◌, subst}
+use Rattle.std.proofs.Common.{subst}
 use Rattle.fn_core.specs.Calls.{IsLegal}
 use Rattle.fn_table.specs.Seen.{PassView}
-use Rattle.fn_table.proofs.Owes.{finding_keeps, step_tells, seat_still}
+use Rattle.fn_table.proofs.Owes.{owes, step_tells, seat_still}
 use Rattle.fn_table.proofs.Small.{adds}
 use Rattle.fn_table.proofs.seated.add_as.Goals as goal
 
 pub fetch_add-requires : goal.fetch_add-requires
 fetch_add-requires g c =
-    let i = c.pass.invariant in
-    let legal = subst (λ (q : PassView). IsLegal q.seen) c.pass.view_is i.2 in
-    (ap (λ p. p.table) c.pass.view_is ∙ c.requires.here.table, c.requires.here.inside, finding_keeps _ _ _ _ _ _ _ _ _ _ c.pass.view_is i.0 i.2 c.requires.may c.requires.here.place (adds c.args.pass.now g.T.Taken.step c.args.amount legal c.requires.step))
+    let legal = subst (λ (q : PassView). IsLegal q.seen) c.pass.view_is c.pass.invariant.2 in
+    owes _ _ _ _ _ _ _ c.pass.view_is c.pass.invariant.0 c.pass.invariant.2 c.requires.may c.requires.here (adds c.args.pass.now g.T.Taken.step c.args.amount legal c.requires.step) (λ k w t. t)
 
 pub returns : goal.returns
 returns g c = step_tells _ _ _ _ _ _ _ _ c.pass.view_is c.pass.invariant.0 c.pass.invariant.2 c.fetch_add.ensures.0 c.fetch_add.ensures.2.0

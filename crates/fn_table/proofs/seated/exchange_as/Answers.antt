@@ -1,11 +1,8 @@
-use Rattle.std.proofs.Common.{ap, ◌∙◌}
-use Rattle.fn_table.proofs.Owes.{finding_keeps, step_tells, seat_still}
+use Rattle.fn_table.proofs.Owes.{owes, step_tells, seat_still}
 use Rattle.fn_table.proofs.seated.exchange_as.Goals as goal
 
 pub compare_exchange-requires : goal.compare_exchange-requires
-compare_exchange-requires g c =
-    let i = c.pass.invariant in
-    (ap (λ p. p.table) c.pass.view_is ∙ c.requires.here.table, c.requires.here.inside, finding_keeps _ _ _ _ _ _ _ _ _ _ c.pass.view_is i.0 i.2 c.requires.may c.requires.here.place c.requires.step)
+compare_exchange-requires g c = owes _ _ _ _ _ _ _ c.pass.view_is c.pass.invariant.0 c.pass.invariant.2 c.requires.may c.requires.here c.requires.step (λ k w t. t)
 
 pub returns : goal.returns
 returns g c = step_tells _ _ _ _ _ _ _ _ c.pass.view_is c.pass.invariant.0 c.pass.invariant.2 c.compare_exchange.ensures.0 c.compare_exchange.ensures.2.0

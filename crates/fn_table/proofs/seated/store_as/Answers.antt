@@ -1,11 +1,8 @@
-use Rattle.std.proofs.Common.{ap, ◌∙◌}
-use Rattle.fn_table.proofs.Owes.{storing_keeps, step_tells, seat_still}
+use Rattle.fn_table.proofs.Owes.{owes, took_some, step_tells, seat_still}
 use Rattle.fn_table.proofs.seated.store_as.Goals as goal
 
 pub store-requires : goal.store-requires
-store-requires g c =
-    let i = c.pass.invariant in
-    (ap (λ p. p.table) c.pass.view_is ∙ c.requires.here.table, c.requires.here.inside, storing_keeps _ _ _ _ _ _ _ _ _ _ c.pass.view_is i.0 i.2 c.requires.may c.requires.here.place c.requires.step)
+store-requires g c = owes _ _ _ _ _ _ _ c.pass.view_is c.pass.invariant.0 c.pass.invariant.2 c.requires.may c.requires.here c.requires.step (λ k w t. took_some k t)
 
 pub returns : goal.returns
 returns g c = (c.store.ensures.2.0.0, step_tells _ _ _ _ _ _ _ _ c.pass.view_is c.pass.invariant.0 c.pass.invariant.2 c.store.ensures.0 c.store.ensures.2.0.1)
