@@ -22,7 +22,7 @@ use Rattle.fn_table.specs.declared.spots.Spots.{Spots}
 use Rattle.fn_table.specs.Spots.{spots_of}
 use Rattle.fn_table.specs.Seats.{Known, shown, HasOne, IsStep, IsHere, taken_by}
 use Rattle.fn_table.proofs.FunnelLaws.{laws, logs_are_legal, guards_are_own, steps_are_told}
-use Rattle.fn_table.proofs.States.{own_is, is_legal}
+use Rattle.fn_table.proofs.States.{own_is}
 
 pub keeps_one : (n : ℕ) → 0 < times n (n ∷ [])
 keeps_one n = let e = eq-eqb n n refl in rw e (omega arith)
@@ -132,12 +132,3 @@ seat_still z n spots me me' step k is t same =
       subst (λ (b : Start). n < b.shape.passes) start is.3,
       is.4 ∙ ap (λ (b : Start). spots_of b.shape n) start,
     )
-
--- a pass that has taken a step was legal before it
-pub legal_before : (p q : PassView) (step : Move) (n : ℕ) → Stepped p step n q → IsLegal p.seen
-legal_before p q step n s =
-    let start = p.seen.start in
-    let now : IsLegal (record { start = start; log = s.before ++ event p.number step ∷ [] }) = subst (λ (x : PassView). IsLegal x.seen) s.now s.legal in
-    let whole = legal_begins funnel start s.before (event p.number step ∷ []) (is_legal start (s.before ++ event p.number step ∷ []) now.0 now.1) in
-    let (ys, front) = s.begins in
-    (now.0, (logs_are_legal start p.seen.log (legal_begins funnel start p.seen.log ys (subst (machine.IsLegal funnel start) (sym front) whole))).0)

@@ -1,9 +1,10 @@
-use Rattle.std.proofs.Common.{◌%◌, sym, ap, ◌∙◌}
+use Rattle.std.proofs.Common.{ap, subst}
 use Rattle.fn_core.specs.declared.Move.TheVariants.{Point}
 use Rattle.fn_layout.proofs.Rows.{row_behind}
 use Rattle.fn_table.specs.declared.spots.Spot.{Spot}
-use Rattle.fn_table.specs.Seen.{PassView}
-use Rattle.fn_table.proofs.Owes.{named, may_as, legal_before}
+use Rattle.fn_table.specs.Seen.{PassView, Stepped}
+use Rattle.fn_table.specs.Kept.{Keeps}
+use Rattle.fn_table.proofs.Owes.{named, may_as}
 use Rattle.fn_table.proofs.Published.{keeps_point}
 use Rattle.fn_table.proofs.climbing.point.Goals as goal
 
@@ -23,8 +24,8 @@ overflow_sub-pass c =
 
 pub invariant_of-pass : goal.invariant_of-pass
 invariant_of-pass c =
-    let p = c.pass.inside.caller in
-    let old = c.args.pass.now in
-    let step = Point c.args.kind c.args.level c.args.row in
-    let behind = (row_behind old.seen.start.shape old.number c.args.kind c.args.level c.requires.may.1.2.0 c.requires.may.1.2.1 (ap (λ (x : Spot). x.row) c.spot-first.ensures)).1 in
-    keeps_point p _ c.args.kind c.args.level c.args.row _ _ c.pass.inside.tally (behind ∙ ap (λ (x : PassView). c.args.row % x.seen.start.shape.rows) (sym c.pass.view_is)) (legal_before p _ step _ c.store.ensures.1) (may_as step c.pass.view_is c.requires.may) c.pass.invariant c.store.ensures.1
+    let p = c.args.pass.now in
+    let k = subst (λ (x : PassView). Keeps x c.pass.inside.tally) c.pass.view_is c.pass.invariant in
+    let s = subst (λ (x : PassView). Stepped x (Point c.args.kind c.args.level c.args.row) c.store.ensures.0 c.store.new.caller) c.pass.view_is c.store.ensures.1 in
+    let behind = (row_behind p.seen.start.shape p.number c.args.kind c.args.level c.requires.may.1.2.0 c.requires.may.1.2.1 (ap (λ (x : Spot). x.row) c.spot-first.ensures)).1 in
+    keeps_point p _ c.args.kind c.args.level c.args.row _ _ c.pass.inside.tally behind c.number-number.ensures.legal c.requires.may k s
