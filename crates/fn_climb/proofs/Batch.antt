@@ -32,7 +32,7 @@ use Rattle.fn_climb.proofs.Underway.{placed, climbing_at, may_at_stage, stage_no
 use Rattle.fn_climb.proofs.Onward.{legal_before}
 use Rattle.fn_climb.proofs.Moves.{fill_stores, may_fill_first, headed_lead, filled_first, filled_base, filled_prev, pointed, published}
 use Rattle.fn_climb.proofs.Goes.{moved}
-use Rattle.fn_climb.proofs.Sofar.{ran_one, ran_more}
+use Rattle.fn_climb.proofs.Runs.{ran_one, ran_more}
 
 -- what a pass's table and number tell stays as it takes a step
 still : {A : Type 0} (f : Shape → ℕ → A) {p q : PassView} {step : Move} {n : ℕ} → Stepped p step n q → f q.seen.start.shape q.number ≡ f p.seen.start.shape p.number

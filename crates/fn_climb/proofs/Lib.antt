@@ -5,7 +5,7 @@ pub mod Moves
 pub mod Goes
 pub mod Batch
 pub mod Tops
-pub mod Sofar
+pub mod Runs
 pub mod Along
 pub mod Members
 pub mod Scans

@@ -26,7 +26,7 @@ pub fn lead_on(table: &FunnelTable, pass: &mut Pass, course: &mut Course) -> Cor
 }
 
 // Where the call leads, closes its batch and takes it up.
-#[tactic(auto, using(crate::proofs::Sofar::ran_none))]
+#[tactic(auto, using(crate::proofs::Runs::ran_none))]
 #[inline(always)]
 fn close_led(table: &FunnelTable, pass: &mut Pass, course: &mut Course)
     requires together { IsOf table.now pass.old }
@@ -56,7 +56,7 @@ fn take_up(table: &FunnelTable, pass: &mut Pass, course: &mut Course, at: u64)
 }
 
 // Where the call has its reply at its leaf, leaves with it.
-#[tactic(auto, using(crate::proofs::Sofar::ran_none))]
+#[tactic(auto, using(crate::proofs::Runs::ran_none))]
 #[inline(always)]
 fn leave_led(table: &FunnelTable, pass: &mut Pass, course: &mut Course) -> CoreStep
     requires together { IsOf table.now pass.old }

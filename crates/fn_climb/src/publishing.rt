@@ -13,7 +13,7 @@ use fn_rows::Stage;
 use fn_table::{FunnelTable, Pass, fill, head, point, publish};
 
 /// Where the call has got a base for its batch, takes the steps that fill its row and publish it.
-#[tactic(auto, using(crate::proofs::Sofar::ran_none))]
+#[tactic(auto, using(crate::proofs::Runs::ran_none))]
 #[inline(always)]
 pub fn publish_based(table: &FunnelTable, pass: &mut Pass, course: &mut Course)
     requires together { IsOf table.now pass.old }

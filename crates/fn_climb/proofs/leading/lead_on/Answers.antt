@@ -1,4 +1,4 @@
-use Rattle.fn_climb.proofs.Sofar.{ran_more, ran_of}
+use Rattle.fn_climb.proofs.Runs.{ran_more, ran_of}
 use Rattle.fn_climb.proofs.leading.lead_on.Goals as goal
 
 pub publish_based-requires-clause-together : goal.publish_based-requires-clause-together

@@ -1,4 +1,4 @@
-use Rattle.fn_climb.proofs.Sofar.{ran_one}
+use Rattle.fn_climb.proofs.Runs.{ran_one}
 use Rattle.fn_climb.proofs.leading.leave_led.Goals as goal
 
 pub returns-in-Got : goal.returns-in-Got

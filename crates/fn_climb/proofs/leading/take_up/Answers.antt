@@ -4,7 +4,7 @@ use Rattle.fn_climb.specs.declared.course.Course.{Course}
 use Rattle.fn_climb.proofs.Underway.{may_at_stage}
 use Rattle.fn_climb.proofs.Moves.{closed}
 use Rattle.fn_climb.proofs.Goes.{moved}
-use Rattle.fn_climb.proofs.Sofar.{ran_one, ran_more}
+use Rattle.fn_climb.proofs.Runs.{ran_one, ran_more}
 use Rattle.fn_climb.proofs.leading.take_up.Goals as goal
 
 pub close_batch-hi-requires-clause-may : goal.close_batch-hi-requires-clause-may

@@ -1,7 +1,6 @@
 use Rattle.std.proofs.Common.{arith}
 use Rattle.fn_core.specs.declared.answer.CoreStep.TheVariants.{Going}
-use Rattle.fn_climb.specs.Course.{pending_of}
-use Rattle.fn_climb.proofs.Sofar.{ran_none, ran_one, ran_more, ran_of, ran_polled, falls, ran_falls}
+use Rattle.fn_climb.proofs.Runs.{ran_none, ran_one, ran_more, ran_of, ran_polled, falls, ran_falls}
 use Rattle.fn_climb.proofs.polling.poll_on.Goals as goal
 
 pub loop-pass-init : goal.loop-pass-init
@@ -15,7 +14,7 @@ lead_on-requires-clause-together c = ran_of (ran_of c.requires.together c.loop-p
 
 pub loop-pass-smaller : goal.loop-pass-smaller
 loop-pass-smaller c =
-    let one = falls (pending_of c.loop-pass.pass c.loop-pass.course) c.advance.new.pass c.in-Going.ensures.0 in
+    let one = falls c.in-Going.ensures.0 in
     let more = ran_falls c.in-Going-lead_on.ensures in
     omega (arith, one, more)
 

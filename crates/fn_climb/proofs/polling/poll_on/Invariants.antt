@@ -1,7 +1,7 @@
 use Rattle.fn_core.specs.declared.answer.CoreStep.TheVariants.{Going}
 use Rattle.fn_climb.specs.Course.{pending_of}
 use Rattle.fn_climb.specs.Turns.{Ran}
-use Rattle.fn_climb.proofs.Sofar.{left_in}
+use Rattle.fn_climb.proofs.Runs.{left_in}
 use Rattle.fn_climb.proofs.polling.poll_on.Given as goal
 
 abbrev pub invariant-loop-pass : goal.invariant-loop-pass
