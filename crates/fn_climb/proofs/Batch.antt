@@ -1,5 +1,5 @@
 -- The steps by which a call that has the base of its batch fills a row and publishes it: what each needs, and what they leave together.
-use Rattle.std.proofs.Common.{◌≡◌, inl, inr, ℕ, ◌+◌, ◌-◌, ◌*◌, ◌<◌, None, refl, sym, ap, subst, ◌∙◌}
+use Rattle.std.proofs.Common.{◌≡◌, ℕ, ◌+◌, ◌-◌, ◌*◌, None, refl, sym, ap, ◌∙◌}
 use Rattle.std.specs.Prelude.{slice_index_or}
 use Rattle.std.proofs.lemmas.Nat.{mod-mul-add}
 use Rattle.fn_rows.specs.declared.Field.TheVariants.{Lo, Base, Prev}
@@ -16,8 +16,6 @@ use Rattle.fn_core.specs.Machine.{place}
 use Rattle.fn_core.specs.Words.{link, fill_word, end_by}
 use Rattle.fn_core.specs.After.{row_read}
 use Rattle.fn_core.specs.Order.{own_row}
-use Rattle.fn_core.specs.declared.Position.{Position}
-use Rattle.fn_core.specs.Filling.{FillsAt, fills_later}
 use Rattle.fn_core.specs.Calls.{state_in}
 use Rattle.fn_core.proofs.Public.{row_read-link, last_mine}
 use Rattle.fn_table.specs.Seen.{PassView, May, Stepped, own_of, with_log}
@@ -28,9 +26,9 @@ use Rattle.fn_climb.specs.declared.course.Course.{Course}
 use Rattle.fn_climb.specs.Course.{at_stage, chosen_at, Holds, pending_of}
 use Rattle.fn_climb.specs.Steps.{Advanced}
 use Rattle.fn_climb.specs.Turns.{Ran}
-use Rattle.fn_climb.proofs.Underway.{placed, climbing_at, may_at_stage, stage_now}
+use Rattle.fn_climb.proofs.Underway.{placed, may_at_stage, stage_now}
 use Rattle.fn_climb.proofs.Onward.{legal_before}
-use Rattle.fn_climb.proofs.Moves.{fill_stores, may_fill_first, headed_lead, filled_first, filled_base, filled_prev, pointed, published}
+use Rattle.fn_climb.proofs.Moves.{may_choose, fill_stores, may_fill_first, headed_lead, filled_first, filled_base, filled_prev, pointed, published}
 use Rattle.fn_climb.proofs.Goes.{moved}
 use Rattle.fn_climb.proofs.Runs.{ran_one, ran_more}
 
@@ -50,14 +48,6 @@ module _ {p : PassView} {c : Course} (h : Holds p c) (free : c.word ≡ None) wh
 
   abbrev chosen : ℕ
   chosen = slice_index_or c.rows (c.level - 1) 0
-
-  -- the row that the call chose is one of the pass's
-  module _ {at hi base : ℕ} (is : c.stage ≡ Based at hi base) where
-    fills : FillsAt (own_of p).stages (own_of p).caller.position c.kind c.level
-    fills = subst (λ (x : Position). FillsAt (own_of p).stages x c.kind c.level) (sym (climbing_at h free)) (refl, inr (inl (refl, ap fills_later (stage_now h free is))))
-
-    pub based_few : chosen < shape.rows
-    based_few = (h.chosen.rows c.level (placed h).1 fills).0
 
   -- the word that was found in `last` is the one that names its row
   module _ {n1 : ℕ} {q1 : PassView} (t1 : Stepped p (Head c.kind c.level) n1 q1) where
@@ -88,7 +78,7 @@ module _ {p : PassView} {c : Course} (h : Holds p c) (free : c.word ≡ None) wh
       row1 : row ≡ by_local q1.seen.start.shape q1.number
       row1 =
           row_follows shape p.number c.kind c.level chosen (ap (λ (x : Spot). x.row) there)
-          ∙ ap (row_number shape p.number c.kind c.level) (sym (mod-mul-add (member shape c.level p.number) shape.rows chosen (based_few is)))
+          ∙ ap (row_number shape p.number c.kind c.level) (sym (mod-mul-add (member shape c.level p.number) shape.rows chosen (may_choose h free is refl).0))
           ∙ sym (still (λ s k. own_row s k c.kind c.level (member s c.level k * s.rows + chosen)) t1)
 
       first : Advanced (pending_of p c) told.Going q1 (at_g (Headed at hi base last))

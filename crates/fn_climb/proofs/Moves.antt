@@ -108,39 +108,39 @@ module _ {p : PassView} {c : Course} (h : Holds p c) where
     fills_own : (row : ℕ) → filled_own start.shape p.number row (own_of p) (own_of p).caller.position ≡ in_stage (own_of p) c.kind c.level (filled (local_row start.shape c.level p.number row) there)
     fills_own row = ap (filled_own start.shape p.number row (own_of p)) (climbing_at h free)
 
-    -- the row that the call chose
-    module _ {at hi base last : ℕ} (is : c.stage ≡ Headed at hi base last) where
-      fills : FillsAt (own_of p).stages (own_of p).caller.position c.kind c.level
-      fills = subst (λ (x : Position). FillsAt (own_of p).stages x c.kind c.level) (sym (climbing_at h free)) (refl, inr (inl (refl, ap fills_later (stage_now h free is))))
+    -- the row that the call chose, where its row is still to be filled
+    abbrev chosen : ℕ
+    chosen = slice_index_or c.rows (c.level - 1) 0
 
-      abbrev chosen : ℕ
-      chosen = slice_index_or c.rows (c.level - 1) 0
+    pub may_choose : {g : Stage} → c.stage ≡ g → fills_later g ≡ true → (chosen < start.shape.rows) × IsFreeFor start s p.number c.kind c.level (chosen_at p c c.level)
+    may_choose is later =
+        h.chosen.rows c.level (placed h).1 (subst (λ (x : Position). FillsAt (own_of p).stages x c.kind c.level) (sym (climbing_at h free)) (refl, inr (inl (refl, ap fills_later (stage_now h free is) ∙ later))))
 
-      module _ {row : ℕ} (is_row : row ≡ own_row_at (chosen_at p c c.level)) where
-        few : chosen < start.shape.rows
-        few = (h.chosen.rows c.level (placed h).1 fills).0
+    module _ {at hi base last : ℕ} (is : c.stage ≡ Headed at hi base last) {row : ℕ} (is_row : row ≡ own_row_at (chosen_at p c c.level)) where
+      may : (chosen < start.shape.rows) × IsFreeFor start s p.number c.kind c.level (chosen_at p c c.level)
+      may = may_choose is refl
 
-        named : row ≡ row_number start.shape p.number c.kind c.level chosen
-        named = is_row ∙ ap (row_number start.shape p.number c.kind c.level) (mod-mul-add (member start.shape c.level p.number) start.shape.rows chosen few)
+      named : row ≡ row_number start.shape p.number c.kind c.level chosen
+      named = is_row ∙ ap (row_number start.shape p.number c.kind c.level) (mod-mul-add (member start.shape c.level p.number) start.shape.rows chosen may.0)
 
-        local_is : local_row start.shape c.level p.number row ≡ chosen_at p c c.level
-        local_is =
-            ap (λ (x : ℕ). member start.shape c.level p.number * start.shape.rows + x % start.shape.rows) named
-            ∙ ap (λ (x : ℕ). member start.shape c.level p.number * start.shape.rows + x) (mod-mul-add (slot_number start.shape p.number c.kind c.level) start.shape.rows chosen few)
+      local_is : local_row start.shape c.level p.number row ≡ chosen_at p c c.level
+      local_is =
+          ap (λ (x : ℕ). member start.shape c.level p.number * start.shape.rows + x % start.shape.rows) named
+          ∙ ap (λ (x : ℕ). member start.shape c.level p.number * start.shape.rows + x) (mod-mul-add (slot_number start.shape p.number c.kind c.level) start.shape.rows chosen may.0)
 
-        pub may_fill_first : May p (Fill row Lo)
-        may_fill_first =
-            let stands = stage_now h free is in
-            let free_for = subst (IsFreeFor start s p.number c.kind c.level) (sym local_is) (h.chosen.rows c.level (placed h).1 fills).1 in
-            (h.inside, (c.kind, c.level, chosen, (climbing_at h free, (at, hi, base, last, stands, free_for.0, free_for.1, ap (word_of Lo) stands)), (few, named)))
+      pub may_fill_first : May p (Fill row Lo)
+      may_fill_first =
+          let stands = stage_now h free is in
+          let free_for = subst (IsFreeFor start s p.number c.kind c.level) (sym local_is) may.1 in
+          (h.inside, (c.kind, c.level, chosen, (climbing_at h free, (at, hi, base, last, stands, free_for.0, free_for.1, ap (word_of Lo) stands)), (may.0, named)))
 
-        kept : IsNext (pending_of p c) (Fill row Lo)
-        kept = (λ i. in_kept_row (pending_of p c) (next_at_stage h free is i) (climbing_at h free i)) ∙ ap (λ (r : ℕ). Fill r Lo) (sym named)
+      kept : IsNext (pending_of p c) (Fill row Lo)
+      kept = (λ i. in_kept_row (pending_of p c) (next_at_stage h free is i) (climbing_at h free i)) ∙ ap (λ (r : ℕ). Fill r Lo) (sym named)
 
-        pub filled_first : {n : ℕ} {q : PassView} → Stepped p (Fill row Lo) n q → Moved p c (FilledLo at hi base last (chosen_at p c c.level)) q
-        filled_first {q = q} t =
-            subst (λ (r : ℕ). Moved p c (FilledLo at hi base last r) q) local_is
-            (moved_by is t (λ stood answer. refl) (filled (local_row start.shape c.level p.number row)) kept _ (fills_own row) refl refl)
+      pub filled_first : {n : ℕ} {q : PassView} → Stepped p (Fill row Lo) n q → Moved p c (FilledLo at hi base last (chosen_at p c c.level)) q
+      filled_first {q = q} t =
+          subst (λ (r : ℕ). Moved p c (FilledLo at hi base last r) q) local_is
+          (moved_by is t (λ stood answer. refl) (filled (local_row start.shape c.level p.number row)) kept _ (fills_own row) refl refl)
 
     pub filled_base : {at hi base last r n : ℕ} {q : PassView} → c.stage ≡ FilledLo at hi base last r → Stepped p (Fill (own_row_at r) Base) n q → Moved p c (FilledBase at hi base last r) q
     filled_base {r = r} is t = staged is t (λ stood answer. refl) (filled (local_row start.shape c.level p.number (own_row_at r))) refl (fills_own (own_row_at r))

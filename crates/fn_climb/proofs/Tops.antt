@@ -1,5 +1,5 @@
 -- The steps by which a call changes its level, or goes to the main word, and the one by which it ends.
-use Rattle.std.proofs.Common.{◌≡◌, ◌≢◌, inl, inr, ℕ, zero, suc, ◌+◌, ◌-◌, ◌<◌, ◌≤◌, Bool, true, false, Some, None, set, get_or, refl, sym, ap, subst, ◌∙◌, arith}
+use Rattle.std.proofs.Common.{◌≡◌, ◌≢◌, inl, inr, ℕ, suc, ◌+◌, ◌-◌, ◌<◌, ◌≤◌, Bool, true, false, Some, None, set, get_or, refl, sym, ap, subst, ◌∙◌, arith}
 use Rattle.std.specs.Prelude.{◌==◌, ◌&&◌, if◌then◌else◌}
 use Rattle.std.proofs.lemmas.Bool.{cases_eq, eq-eqb, ne_eqb}
 use Rattle.std.proofs.lemmas.List.{get_or-set_same, get_or-set_other, length-set}
@@ -187,23 +187,18 @@ module _ {p : PassView} {c : Course} (h : Holds p c) where
       replies = ap (reply_of start.cap c.kind) (stage_now h free is)
 
       -- at a leaf it ends
-      ends_by : (l : ℕ) → l ≡ 1 → (stood : Stage) (answer : Answer) → told_by start.cap (Leave c.kind l) stood answer ≡ told.Ready (reply_of start.cap c.kind stood)
-      ends_by zero one stood answer = absurd (omega (arith, one))
-      ends_by (suc zero) one stood answer = refl
-      ends_by (suc (suc below)) one stood answer = absurd (omega (arith, one))
-
-      rests_by : (l : ℕ) → l ≡ 1 → left_own start.cap c.kind l (own_of p) ≡ in_position (out_of (own_of p) c.kind l) Resting
-      rests_by zero one = absurd (omega (arith, one))
-      rests_by (suc zero) one = refl
-      rests_by (suc (suc below)) one = absurd (omega (arith, one))
-
       pub left_leaf : c.level ≡ 1 → Went (pending_of p c) (told.Ready reply) q
       left_leaf one =
           let there = ap (λ (o : Own). o.stages c.kind c.level) (own_before h t) in
-          goes_told h t next_leave (t.own ∙ rests_by c.level one) refl (ends_by c.level one _ _ ∙ ap told.Ready (ap (reply_of start.cap c.kind) there ∙ replies))
+          let rests = subst (λ (l : ℕ). left_own start.cap c.kind l (own_of p) ≡ in_position (out_of (own_of p) c.kind l) Resting) (sym one) refl in
+          let ends = subst (λ (l : ℕ). (stood : Stage) (answer : Answer) → told_by start.cap (Leave c.kind l) stood answer ≡ told.Ready (reply_of start.cap c.kind stood)) (sym one) (λ stood answer. refl) in
+          goes_told h t next_leave (t.own ∙ rests) refl (ends _ _ ∙ ap told.Ready (ap (reply_of start.cap c.kind) there ∙ replies))
 
       -- or it goes down a level
-      module _ {below : ℕ} (up : c.level ≡ suc below) (low : 1 ≤ below) where
+      module _ {lowest : ℕ} (up : c.level ≡ suc (suc lowest)) where
+        abbrev below : ℕ
+        below = suc lowest
+
         abbrev left : Own
         left = out_of (own_of p) c.kind c.level
 
@@ -213,27 +208,22 @@ module _ {p : PassView} {c : Course} (h : Holds p c) where
         abbrev lower : Stage
         lower = Based batch.at batch.hi reply
 
-        down_by : (l b : ℕ) → l ≡ suc b → 1 ≤ b → left_own start.cap c.kind l (own_of p)
-            ≡ in_position (in_stage (out_of (own_of p) c.kind l) c.kind b (based_stage (reply_of start.cap c.kind ((own_of p).stages c.kind l)) ((out_of (own_of p) c.kind l).stages c.kind b))) (Climbing c.kind b)
-        down_by l zero e some_low = absurd (omega arith)
-        down_by zero (suc b) e some_low = absurd (omega (arith, e))
-        down_by (suc zero) (suc b) e some_low = absurd (omega (arith, e))
-        down_by (suc (suc k)) (suc b) e some_low =
-            let same : k ≡ b = omega (arith, e) in
-            ap (λ (x : ℕ). in_position (in_stage (out_of (own_of p) c.kind (suc (suc k))) c.kind (suc x) (based_stage (reply_of start.cap c.kind ((own_of p).stages c.kind (suc (suc k)))) ((out_of (own_of p) c.kind (suc (suc k))).stages c.kind (suc x)))) (Climbing c.kind (suc x))) same
+        abbrev down_to : ℕ → Stage → Own
+        down_to l g = in_position (in_stage (out_of (own_of p) c.kind l) c.kind below g) (Climbing c.kind below)
 
-        lower_is : based_stage (reply_of start.cap c.kind ((own_of p).stages c.kind c.level)) (left.stages c.kind below) ≡ lower
+        abbrev lower_from : ℕ → Stage
+        lower_from l = based_stage (reply_of start.cap c.kind ((own_of p).stages c.kind l)) ((out_of (own_of p) c.kind l).stages c.kind below)
+
+        lower_is : lower_from c.level ≡ lower
         lower_is =
             (λ i. based_stage (replies i) (level_other (own_of p).stages c.kind c.level Out below (λ e. omega (arith, e, up)) i))
-            ∙ ap (based_stage reply) (h.course.under below low (omega (arith, up)))
+            ∙ ap (based_stage reply) (h.course.under below (omega arith) (omega (arith, up)))
 
-        gone : own_of q ≡ in_position (in_stage left c.kind below lower) (Climbing c.kind below)
-        gone = t.own ∙ down_by c.level below up low ∙ ap (λ (g : Stage). in_position (in_stage left c.kind below g) (Climbing c.kind below)) lower_is
+        gone : own_of q ≡ down_to c.level lower
+        gone = t.own ∙ subst (λ (l : ℕ). left_own start.cap c.kind l (own_of p) ≡ down_to l (lower_from l)) (sym up) refl ∙ ap (down_to c.level) lower_is
 
-        going_by : (l : ℕ) → l ≡ suc below → (stood : Stage) (answer : _) → told_by start.cap (Leave c.kind l) stood answer ≡ told.Going
-        going_by zero e stood answer = refl
-        going_by (suc zero) e stood answer = absurd (omega (arith, e, low))
-        going_by (suc (suc k)) e stood answer = refl
+        goes_on : (stood : Stage) (answer : Answer) → told_by start.cap (Leave c.kind c.level) stood answer ≡ told.Going
+        goes_on = subst (λ (l : ℕ). (stood : Stage) (answer : Answer) → told_by start.cap (Leave c.kind l) stood answer ≡ told.Going) (sym up) (λ stood answer. refl)
 
         -- what stands below that level
         under_sunk : (l : ℕ) → 1 ≤ l → l < below → put_level left.stages c.kind below lower c.kind l ≡ Shut (batch_below c l).at (batch_below c l).hi
@@ -249,7 +239,7 @@ module _ {p : PassView} {c : Course} (h : Holds p c) where
               here = rw (← down) (sym (level_same left.stages c.kind below lower));
               two = h.course.two;
               under = λ l some less. under_sunk l some (omega (arith, less, down));
-            }) (going_by c.level up _ _)
+            }) (goes_on _ _)
 
       pub left_down : c.level ≢ 1 → Advanced (pending_of p c) told.Going q (sunk c reply)
-      left_down other = let low = level_low h in goes_down {below = c.level - 1} (omega (arith, low)) (omega (arith, low, other))
+      left_down other = let low = level_low h in goes_down {lowest = c.level - 2} (omega (arith, low, other))

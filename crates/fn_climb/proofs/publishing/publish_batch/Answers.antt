@@ -1,7 +1,7 @@
-use Rattle.std.proofs.Common.{arith}
+use Rattle.std.proofs.Common.{refl, arith}
 use Rattle.fn_climb.proofs.Underway.{may_at_stage}
-use Rattle.fn_climb.proofs.Moves.{level_low, level_high, row_fits}
-use Rattle.fn_climb.proofs.Batch.{based_few, may_lo, stores_lo, may_base, stores_base, may_prev, stores_prev, may_point, may_publish, ends_there, batch_ran}
+use Rattle.fn_climb.proofs.Moves.{level_low, level_high, row_fits, may_choose}
+use Rattle.fn_climb.proofs.Batch.{may_lo, stores_lo, may_base, stores_base, may_prev, stores_prev, may_point, may_publish, ends_there, batch_ran}
 use Rattle.fn_climb.proofs.publishing.publish_batch.Goals as goal
 
 pub overflow_sub-row : goal.overflow_sub-row
@@ -14,7 +14,7 @@ bounds-course-level c =
 
 pub overflow_add-row : goal.overflow_add-row
 overflow_add-row c =
-    let few = based_few c.requires.holds c.requires.free c.requires.based in
+    let few = (may_choose c.requires.holds c.requires.free c.requires.based refl).0 in
     let fits = row_fits c.requires.holds few c.spot_of.ensures in omega (arith, fits)
 
 pub head-last-requires-clause-may : goal.head-last-requires-clause-may
