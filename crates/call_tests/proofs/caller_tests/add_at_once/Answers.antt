@@ -1,6 +1,6 @@
 use denote.Param.Send.{sendable}
 use Rattle.fn_callers.proofs.Sent.{caller_sent}
-use Rattle.fn_callers.proofs.tests.add_at_once.Goals as goal
+use Rattle.call_tests.proofs.caller_tests.add_at_once.Goals as goal
 
 pub join-requires-send-F : goal.join-requires-send-F
 join-requires-send-F g c κs within = search (sendable, caller_sent) depth 12
