@@ -7,9 +7,3 @@ row_there-row-requires-clause-aggregator c = rw (c.shape_of.ensures, c.spot_of-i
 
 pub row_there-row-requires-clause-owned : goal.row_there-row-requires-clause-owned
 row_there-row-requires-clause-owned c = rw (c.shape_of.ensures, c.spot_of-index.ensures) (in_hand c.requires.holds c.requires.free c.requires.in_hand)
-
-pub peek-requires-clause-may : goal.peek-requires-clause-may
-peek-requires-clause-may c = rw (c.row_there-row.ensures, c.shape_of.ensures, c.spot_of-index.ensures) c.requires.may
-
-pub returns : goal.returns
-returns c = rw (c.row_there-row.ensures, c.shape_of.ensures, c.spot_of-index.ensures) at c.peek.ensures

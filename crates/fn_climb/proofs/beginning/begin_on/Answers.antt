@@ -1,10 +1,7 @@
 use Rattle.std.proofs.Common.{List, ℕ, sym, subst}
 use Rattle.fn_climb.specs.Begin.{AreFirstOpen, finds_of}
-use Rattle.fn_climb.proofs.Refusals.{opened_rows, begun_waiting, begun_refused}
+use Rattle.fn_climb.proofs.Refusals.{begun_waiting, begun_refused}
 use Rattle.fn_climb.proofs.beginning.begin_on.Goals as goal
-
-pub arrive_at_leaf-requires-clause-open_rows : goal.arrive_at_leaf-requires-clause-open_rows
-arrive_at_leaf-requires-clause-open_rows c = opened_rows c.args.pass.now c.args.kind c.args.amount c.in-Ok.rows c.find_rows.new.pass c.in-Ok.ensures
 
 pub returns-in-Ok-clause-begun : goal.returns-in-Ok-clause-begun
 returns-in-Ok-clause-begun c =

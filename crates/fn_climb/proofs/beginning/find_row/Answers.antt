@@ -1,14 +1,7 @@
 use Rattle.std.proofs.Common.{ap, arith}
 use Rattle.fn_layout.specs.declared.shape.Shape.{Shape}
-use Rattle.fn_climb.proofs.Scans.{of_still, idle_still}
 use Rattle.fn_climb.proofs.Levels.{level_start, level_more, level_stop, level_through}
 use Rattle.fn_climb.proofs.beginning.find_row.Goals as goal
-
-pub try_row-requires-clause-together : goal.try_row-requires-clause-together
-try_row-requires-clause-together c = of_still c.args.table.now c.args.pass.now c.loop-row.pass c.loop-row.invariant.still c.requires.together
-
-pub try_row-requires-clause-idle : goal.try_row-requires-clause-idle
-try_row-requires-clause-idle c = idle_still c.args.pass.now c.loop-row.pass c.loop-row.invariant.still c.requires.idle
 
 pub loop-row-init : goal.loop-row-init
 loop-row-init c = level_start c.args.pass.now c.args.kind c.args.level _ c.number-number.ensures.legal

@@ -1,14 +1,7 @@
 use Rattle.std.proofs.Common.{◌≤◌, refl, ap, arith}
 use Rattle.fn_layout.specs.declared.shape.Shape.{Shape}
-use Rattle.fn_climb.proofs.Scans.{of_still, idle_still}
 use Rattle.fn_climb.proofs.Every.{every_start, every_more, every_stop, every_through}
 use Rattle.fn_climb.proofs.beginning.find_rows.Goals as goal
-
-pub find_row-requires-clause-together : goal.find_row-requires-clause-together
-find_row-requires-clause-together c = of_still c.args.table.now c.args.pass.now c.loop-level.pass c.loop-level.invariant.still c.requires.together
-
-pub find_row-requires-clause-idle : goal.find_row-requires-clause-idle
-find_row-requires-clause-idle c = idle_still c.args.pass.now c.loop-level.pass c.loop-level.invariant.still c.requires.idle
 
 pub loop-level-init : goal.loop-level-init
 loop-level-init c = every_start c.args.pass.now c.args.kind _ refl c.number-number.ensures.legal

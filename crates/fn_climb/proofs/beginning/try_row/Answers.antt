@@ -2,7 +2,7 @@ use Rattle.std.proofs.Common.{◌≡◌, ap, sym, ◌∙◌, arith}
 use Rattle.fn_layout.proofs.Tree.{aggregator_below}
 use Rattle.fn_core.proofs.Public.{lets_where, blocks_where}
 use Rattle.fn_table.specs.declared.spots.Spot.{Spot}
-use Rattle.fn_climb.proofs.Scans.{is_member, member_skip, member_may, member_more, member_stop, members_through, row_start, row_unused, of_still}
+use Rattle.fn_climb.proofs.Scans.{is_member, member_skip, member_more, member_stop, members_through, row_start, row_unused}
 use Rattle.fn_climb.proofs.beginning.try_row.Goals as goal
 
 pub returns-then-end-eq0 : goal.returns-then-end-eq0
@@ -20,16 +20,6 @@ pub loop-member-preserved-then-other-number : goal.loop-member-preserved-then-ot
 loop-member-preserved-then-other-number c =
     let at = is_member c.args.pass.now c.args.kind c.args.level c.args.row c.shape_of-shape.ensures c.spot-spot.ensures c.loop-member-test.true c.pass_of-other.ensures.exact in
     member_skip c.args.pass.now c.args.kind c.args.level c.args.row at c.loop-member.invariant (c.if-other-number.true ∙ c.number-number.ensures.number)
-
-pub scan-word-requires-clause-together : goal.scan-word-requires-clause-together
-scan-word-requires-clause-together c = of_still c.args.table.now c.args.pass.now c.loop-member.pass c.loop-member.invariant.still c.requires.together
-
-pub scan-word-requires-clause-may : goal.scan-word-requires-clause-may
-scan-word-requires-clause-may c =
-    let at = is_member c.args.pass.now c.args.kind c.args.level c.args.row c.shape_of-shape.ensures c.spot-spot.ensures c.loop-member-test.true c.pass_of-other.ensures.exact in
-    let inside = rw c.number-number.ensures.number at c.number-number.ensures.in_range in
-    let level = rw (← c.requires.together.1) at c.requires.level in
-    member_may c.args.pass.now c.args.kind c.args.level c.args.row at c.loop-member.invariant (λ same. c.if-other-number.false (same ∙ sym c.number-number.ensures.number)) inside c.requires.idle c.requires.change level
 
 pub returns-then-not-lets : goal.returns-then-not-lets
 returns-then-not-lets c =

@@ -7,11 +7,5 @@ publish_based-requires-clause-together c = ran_of c.requires.together c.close_le
 pub leave_led-requires-clause-together : goal.leave_led-requires-clause-together
 leave_led-requires-clause-together c = ran_of (ran_of c.requires.together c.close_led.ensures) c.publish_based.ensures
 
-pub publish_based-requires-clause-holds : goal.publish_based-requires-clause-holds
-publish_based-requires-clause-holds c = c.close_led.ensures.ends.1.0
-
-pub leave_led-requires-clause-holds : goal.leave_led-requires-clause-holds
-leave_led-requires-clause-holds c = c.publish_based.ensures.ends.1.0
-
 pub returns : goal.returns
 returns c = ran_more c.close_led.ensures (ran_more c.publish_based.ensures c.leave_led.ensures)

@@ -1,20 +1,13 @@
 use Rattle.std.proofs.Common.{ap}
 use Rattle.fn_core.specs.declared.answer.CoreStep.TheVariants.{Going}
 use Rattle.fn_climb.specs.declared.course.Course.{Course}
-use Rattle.fn_climb.proofs.Underway.{may_at_stage}
 use Rattle.fn_climb.proofs.Moves.{closed}
 use Rattle.fn_climb.proofs.Goes.{moved}
 use Rattle.fn_climb.proofs.Runs.{ran_one, ran_more}
 use Rattle.fn_climb.proofs.leading.take_up.Goals as goal
 
-pub close_batch-hi-requires-clause-may : goal.close_batch-hi-requires-clause-may
-close_batch-hi-requires-clause-may c = may_at_stage c.requires.holds c.requires.free c.requires.leads
-
 pub go_up-requires-clause-holds : goal.go_up-requires-clause-holds
 go_up-requires-clause-holds c = rw c.go_to.ensures (moved c.requires.holds c.requires.free (closed c.requires.holds c.requires.free c.requires.leads c.close_batch-hi.ensures)).1.0
-
-pub go_up-requires-clause-free : goal.go_up-requires-clause-free
-go_up-requires-clause-free c = ap (λ (x : Course). x.word) c.go_to.ensures
 
 pub go_up-requires-clause-shut : goal.go_up-requires-clause-shut
 go_up-requires-clause-shut c = (c.args.at, c.close_batch-hi.result, ap (λ (x : Course). x.stage) c.go_to.ensures)

@@ -1,5 +1,4 @@
 use Rattle.std.proofs.Common.{refl, arith}
-use Rattle.fn_climb.proofs.Underway.{may_at_stage}
 use Rattle.fn_climb.proofs.Moves.{level_low, level_high, row_fits, may_choose}
 use Rattle.fn_climb.proofs.Batch.{may_lo, stores_lo, may_base, stores_base, may_prev, stores_prev, may_point, may_publish, ends_there, batch_ran}
 use Rattle.fn_climb.proofs.publishing.publish_batch.Goals as goal
@@ -16,10 +15,6 @@ pub overflow_add-row : goal.overflow_add-row
 overflow_add-row c =
     let few = (may_choose c.requires.holds c.requires.free c.requires.based refl).0 in
     let fits = row_fits c.requires.holds few c.spot_of.ensures in omega (arith, fits)
-
-pub head-last-requires-clause-may : goal.head-last-requires-clause-may
-head-last-requires-clause-may c =
-    may_at_stage c.requires.holds c.requires.free c.requires.based
 
 pub fill-requires-clause-may : goal.fill-requires-clause-may
 fill-requires-clause-may c =

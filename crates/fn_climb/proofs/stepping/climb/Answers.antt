@@ -11,6 +11,3 @@ go_on-next-requires-clause-goes_on c =
 
 pub returns-in_default : goal.returns-in_default
 returns-in_default c = rw c.go_to.ensures (moved c.requires.holds c.requires.free c.go_on-next.ensures)
-
-pub go_up-requires-clause-shut : goal.go_up-requires-clause-shut
-go_up-requires-clause-shut c = (_, _, c.in-Shut.is)

@@ -1,11 +1,7 @@
 use Rattle.std.proofs.Common.{arith}
-use Rattle.fn_climb.proofs.Underway.{may_at_stage}
 use Rattle.fn_climb.proofs.Moves.{level_low, level_high}
 use Rattle.fn_climb.proofs.Tops.{left_leaf, left_down}
 use Rattle.fn_climb.proofs.stepping.come_down.Goals as goal
-
-pub leave-requires-clause-may : goal.leave-requires-clause-may
-leave-requires-clause-may c = may_at_stage c.requires.holds c.requires.free c.requires.got
 
 pub returns-then-level-eq1 : goal.returns-then-level-eq1
 returns-then-level-eq1 c = (rw (c.after_capped-reply.ensures, c.cap.ensures, ← c.requires.together.1) (left_leaf c.requires.holds c.requires.free c.requires.got c.leave.ensures.1 c.if-level-eq1.true), tt)

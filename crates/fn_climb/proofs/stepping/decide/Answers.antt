@@ -1,13 +1,6 @@
 use Rattle.std.proofs.Common.{refl}
-use Rattle.fn_climb.proofs.Underway.{may_exchange, deciding_at}
 use Rattle.fn_climb.proofs.Tops.{exchange_won, exchange_lost}
 use Rattle.fn_climb.proofs.stepping.decide.Goals as goal
-
-pub exchange-requires-clause-may : goal.exchange-requires-clause-may
-exchange-requires-clause-may c = rw c.weight-weight.ensures (may_exchange c.requires.holds c.requires.loaded)
-
-pub exchange-requires-clause-loaded : goal.exchange-requires-clause-loaded
-exchange-requires-clause-loaded c = rw (deciding_at c.requires.holds c.requires.loaded) refl
 
 pub returns-in-Ok : goal.returns-in-Ok
 returns-in-Ok c = rw c.take_base.ensures (exchange_won c.requires.holds c.requires.loaded (rw c.weight-weight.ensures at c.in-Ok.ensures.step) refl)

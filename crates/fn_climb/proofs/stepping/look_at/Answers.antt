@@ -1,9 +1,5 @@
-use Rattle.fn_climb.proofs.Underway.{may_at_stage}
 use Rattle.fn_climb.proofs.Goes.{looked_behind, looked_on, leads_now, late_now}
 use Rattle.fn_climb.proofs.stepping.look_at.Goals as goal
-
-pub look-done-requires-clause-may : goal.look-done-requires-clause-may
-look-done-requires-clause-may c = may_at_stage c.requires.holds c.requires.free c.requires.waits
 
 pub returns-then-done-at : goal.returns-then-done-at
 returns-then-done-at c = looked_behind c.requires.holds c.requires.free c.requires.waits c.look-done.ensures c.if-done-at.true
