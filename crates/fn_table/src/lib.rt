@@ -15,7 +15,6 @@ mod spots;
 mod steps;
 mod table;
 mod tally;
-mod words;
 
 ghost use Rattle.running.specs.Machine.{Laws};
 ghost use Rattle.fn_table.specs.Seen.{GlancesLeaveStates, GlancesLeaveIdle, GlancesAreLegal};

@@ -4,10 +4,11 @@ ghost use prog.Atomic.{either};
 ghost use Rattle.fn_table.specs.Seen.{IsOf, May, Stepped, Stored, place};
 ghost use Rattle.fn_table.specs.Funnel.{addition};
 ghost use Rattle.fn_table.specs.Kept.{KeepsTally};
-ghost use Rattle.fn_table.specs.Seats.{IsStep};
+ghost use Rattle.fn_table.specs.Seats.{IsStep, IsHere};
 
 use crate::pass::Pass;
-use crate::seated::{Seated, add_as, exchange_as, load_as, store_as};
+use crate::rule::{Finds, Stores, Taken, Words};
+use crate::seated::Seated;
 use crate::table::FunnelTable;
 use fn_core::Move;
 use std::marker::Brand;
@@ -22,6 +23,57 @@ fn place_of(table: &FunnelTable, caller: &Seated, step: Move) -> usize
 {
     let _number = caller.number;
     caller.word_of(table.shape, step) as usize
+}
+
+// A load of a word, by which the seat's pass takes the step that T names.
+#[inline(always)]
+fn load_as<T: Taken>(words: &Words, pass: &mut Seated, word: usize, _step: Move) -> u64
+    requires here { IsHere words.now.table_id word pass.old T.step }
+    requires may { May pass.old T.step }
+    requires step { IsStep pass.old T.step (λ n. n) }
+    ensures { Stepped pass.old T.step result pass.new }
+{
+    words.load::<Finds<T>>(&mut pass.seat, word)
+}
+
+// .. an addition
+#[inline(always)]
+fn add_as<T: Taken>(words: &Words, pass: &mut Seated, word: usize, amount: u64, _step: Move) -> u64
+    requires here { IsHere words.now.table_id word pass.old T.step }
+    requires may { May pass.old T.step }
+    requires step { addition T.step ≡ Some amount }
+    ensures { Stepped pass.old T.step result pass.new }
+{
+    words.fetch_add::<Finds<T>>(&mut pass.seat, word, amount)
+}
+
+// .. a store
+#[inline(always)]
+fn store_as<T: Taken>(words: &Words, pass: &mut Seated, word: usize, new: u64, _step: Move)
+    requires here { IsHere words.now.table_id word pass.old T.step }
+    requires may { May pass.old T.step }
+    requires step { IsStep pass.old T.step (λ _. new) }
+    ensures { Stored pass.old T.step pass.new }
+{
+    words.store::<Stores<T>>(&mut pass.seat, word, new);
+}
+
+// .. a compare-exchange
+#[inline(always)]
+fn exchange_as<T: Taken>(
+    words: &Words,
+    pass: &mut Seated,
+    word: usize,
+    old: u64,
+    new: u64,
+    _step: Move,
+) -> u64
+    requires here { IsHere words.now.table_id word pass.old T.step }
+    requires may { May pass.old T.step }
+    requires step { IsStep pass.old T.step (λ n. either (n == old) new n) }
+    ensures { Stepped pass.old T.step result pass.new }
+{
+    words.compare_exchange::<Finds<T>>(&mut pass.seat, word, old, new)
 }
 
 /// A load, by which the pass takes this step.

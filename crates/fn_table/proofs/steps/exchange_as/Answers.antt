@@ -1,5 +1,5 @@
 use Rattle.fn_table.proofs.Owes.{owes, step_tells, seat_still}
-use Rattle.fn_table.proofs.seated.exchange_as.Goals as goal
+use Rattle.fn_table.proofs.steps.exchange_as.Goals as goal
 
 pub compare_exchange-requires : goal.compare_exchange-requires
 compare_exchange-requires g c = owes _ _ _ _ _ _ _ c.pass.view_is c.pass.invariant.0 c.pass.invariant.2 c.requires.may c.requires.here c.requires.step (λ k w t. t)

@@ -3,7 +3,7 @@ use Rattle.fn_core.specs.Calls.{IsLegal}
 use Rattle.fn_table.specs.Seen.{PassView}
 use Rattle.fn_table.proofs.Owes.{owes, step_tells, seat_still}
 use Rattle.fn_table.proofs.Small.{adds}
-use Rattle.fn_table.proofs.seated.add_as.Goals as goal
+use Rattle.fn_table.proofs.steps.add_as.Goals as goal
 
 pub fetch_add-requires : goal.fetch_add-requires
 fetch_add-requires g c =
