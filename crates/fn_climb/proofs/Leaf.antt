@@ -3,7 +3,7 @@ use Rattle.std.proofs.Common.{◌≡◌, inl, inr, ℕ, ◌+◌, ◌-◌, ◌*�
 use Rattle.std.proofs.lemmas.Nat.{div-mul-add, mod-mul-add}
 use Rattle.fn_model.specs.declared.Kind.{Kind}
 use Rattle.fn_rows.specs.Machine.{Lets, IsFree}
-use Rattle.fn_rows.specs.declared.Stage.TheVariants.{Out, Saw, Told, Waiting}
+use Rattle.fn_rows.specs.declared.Stage.TheVariants.{Saw, Told, Waiting}
 use Rattle.fn_layout.specs.Tree.{IsLevel, aggregator, member, members, pass_of}
 use Rattle.fn_layout.proofs.Tree.{aggregator_below}
 use Rattle.fn_layout.proofs.Members.{numbers_are_members}
@@ -14,10 +14,8 @@ use Rattle.fn_core.specs.Machine.{IsChange, MaySpend, place}
 use Rattle.fn_core.specs.Words.{Own}
 use Rattle.fn_core.specs.After.{in_stage, in_position, with_call, told_stage}
 use Rattle.fn_core.specs.Batches.{has_come}
-use Rattle.fn_core.specs.Positions.{Fits}
 use Rattle.fn_core.specs.Laws.{IsFreeFor}
 use Rattle.fn_core.specs.Calls.{IsLegal, IsIdle, state_in}
-use Rattle.fn_core.proofs.Public.{positions_fit}
 use Rattle.fn_table.specs.Seen.{PassView, May, Stepped, own_of}
 use Rattle.fn_climb.specs.declared.course.Course.{Course}
 use Rattle.fn_climb.specs.Course.{Holds}
@@ -53,10 +51,6 @@ module _ (p : PassView) (kind : Kind) (level n : ℕ) (less : n < p.seen.start.s
 -- an open row may be filled
 pub open_free : (p : PassView) (kind : Kind) (level n : ℕ) → IsOpen p.seen.start.shape p.number (own_of p) kind level n → n < p.seen.start.shape.rows → IsFreeFor p.seen.start (state_in p.seen) p.number kind level (member p.seen.start.shape level p.number * p.seen.start.shape.rows + n)
 open_free p kind level n open_row less = (div-mul-add (member p.seen.start.shape level p.number) p.seen.start.shape.rows n less, free_by p kind level n less open_row)
-
--- where a pass rests it stands nowhere
-all_out : (p : PassView) → IsLegal p.seen → IsIdle p.seen p.number → (k : Kind) (l : ℕ) → (own_of p).stages k l ≡ Out
-all_out p legal idle = subst (Fits p.seen.start.shape.levels (own_of p).stages) idle (positions_fit p.seen.start p.seen.log legal.0 legal.1 p.number)
 
 module _ (p : PassView) (kind : Kind) (amount : ℕ) (rows : List ℕ) (inside : p.number < p.seen.start.shape.passes) (legal : IsLegal p.seen) (idle : IsIdle p.seen p.number) (change : IsChange kind) (spend : MaySpend (state_in p.seen) p.number amount) (open_rows : AreOpen p kind rows) where
   pub may_see : May p (See kind 1)

@@ -5,8 +5,8 @@ use Rattle.std.proofs.lemmas.Bool.{eq-eqb, ne_eqb, false≢true}
 use Rattle.fn_rows.specs.declared.Field.{Field}
 use Rattle.fn_rows.specs.declared.Field.TheVariants.{Lo, Base, Prev}
 use Rattle.fn_rows.specs.declared.Stage.{Stage}
-use Rattle.fn_rows.specs.declared.Stage.TheVariants.{Saw, Told, Waiting, Lead, Late, Shut, Based, Headed, FilledLo, FilledBase, Filled, Pointed, At, Over, Hit, Got}
-use Rattle.fn_rows.specs.Machine.{filled, peeked}
+use Rattle.fn_rows.specs.declared.Stage.TheVariants.{Saw, Told, Waiting, Lead, Late, Shut, Based, Headed, FilledLo, FilledBase, Filled, Pointed, At, Over, Got}
+use Rattle.fn_rows.specs.Machine.{filled}
 use Rattle.fn_rows.specs.Law.{row_in_hand}
 use Rattle.fn_layout.specs.declared.shape.Shape.{Shape}
 use Rattle.fn_layout.specs.Tree.{aggregator, member, members}
@@ -36,7 +36,7 @@ use Rattle.fn_table.specs.Spots.{spot_of}
 use Rattle.fn_layout.proofs.Rows.{row_follows}
 use Rattle.fn_climb.specs.declared.course.Course.{Course}
 use Rattle.fn_climb.specs.Next.{in_kept_row, IsNext}
-use Rattle.fn_climb.specs.Course.{batch_below, weight_below, goes_on, has_row, walks, peek_of, chosen_at, IsLink, Holds, Moved, pending_of}
+use Rattle.fn_climb.specs.Course.{batch_below, weight_below, peek_of, chosen_at, IsLink, Holds, Moved, pending_of}
 use Rattle.fn_climb.proofs.Underway.{placed, slot, its_aggregator, climbs, held_is, climbing_at, next_at_stage, may_at_stage, stage_now}
 use Rattle.fn_climb.proofs.Onward.{legal_before, own_before, plain}
 
@@ -163,14 +163,8 @@ module _ {p : PassView} {c : Course} (h : Holds p c) where
       peeked_at : Moved p c (peeked_stage n (row_read start.shape n) g) q
       peeked_at = staged is t (λ stood answer. refl) (peeked_stage n (row_read start.shape n)) (ap (λ (m : Move). in_kept_row (pending_of p c) m (own_of p).caller.position) next) (ap (peeked_own start n (own_of p)) (climbing_at h free))
 
-    pub peeked_lo : {at r n : ℕ} {q : PassView} → c.stage ≡ At at r → Stepped p (peek_of p c r Lo) n q → Moved p c (peeked at r n) q
-    peeked_lo {r = r} is = peeked_at r Lo is refl
-
     pub peeked_prev : {at r n : ℕ} {q : PassView} → c.stage ≡ Over at r → Stepped p (peek_of p c r Prev) n q → Moved p c (At at (row_read start.shape n - 1)) q
     peeked_prev {r = r} is = peeked_at r Prev is refl
-
-    pub peeked_base : {at r lo n : ℕ} {q : PassView} → c.stage ≡ Hit at r lo → Stepped p (peek_of p c r Base) n q → Moved p c (Got n (at - lo)) q
-    peeked_base {r = r} is = peeked_at r Base is refl
 
     -- the row in hand is a member's
     pub in_hand : {r : ℕ} → row_in_hand (c.stage) ≡ Some r → r / start.shape.rows < members start.shape c.level index
@@ -231,26 +225,3 @@ module _ {p : PassView} {c : Course} (h : Holds p c) where
     pub arrived : {seen n : ℕ} {q : PassView} → c.stage ≡ Told seen → Stepped p (Arrive c.kind c.level (weight_below c)) n q → Moved p c (Waiting n) q
     arrived {n = n} is t =
         staged is t (λ stood answer. refl) (λ g. Waiting n) next_arrive (arrived_as c.level (weight_below c) n refl (λ one. false≢true (ap has_come (sym is) ∙ leaf_come one)))
-
--- a stage that goes on is on a row, where it is none before that
-pub has_row_left : (g : Stage) → goes_on g ≡ true → ((a : ℕ) → g ≡ Saw a → ⊥) → ((a : ℕ) → g ≡ Told a → ⊥) → ((a : ℕ) → g ≡ Lead a → ⊥) → ((a : ℕ) → g ≡ Late a → ⊥) → ((a b x : ℕ) → g ≡ Based a b x → ⊥) → has_row g ≡ true
-has_row_left (Saw a) is saw told lead late based = absurd (saw a refl)
-has_row_left (Told a) is saw told lead late based = absurd (told a refl)
-has_row_left (Lead a) is saw told lead late based = absurd (lead a refl)
-has_row_left (Late a) is saw told lead late based = absurd (late a refl)
-has_row_left (Based a b x) is saw told lead late based = absurd (based a b x refl)
-has_row_left g is saw told lead late based = is
-
-pub walks_left : (g : Stage) → has_row g ≡ true → ((a b x y : ℕ) → g ≡ Headed a b x y → ⊥) → ((a b x y z : ℕ) → g ≡ FilledLo a b x y z → ⊥) → ((a b x y z : ℕ) → g ≡ FilledBase a b x y z → ⊥) → ((a b x y : ℕ) → g ≡ Filled a b x y → ⊥) → ((a b x y : ℕ) → g ≡ Pointed a b x y → ⊥) → walks g ≡ true
-walks_left (Headed a b x y) is headed lo base filled pointed = absurd (headed a b x y refl)
-walks_left (FilledLo a b x y z) is headed lo base filled pointed = absurd (lo a b x y z refl)
-walks_left (FilledBase a b x y z) is headed lo base filled pointed = absurd (base a b x y z refl)
-walks_left (Filled a b x y) is headed lo base filled pointed = absurd (filled a b x y refl)
-walks_left (Pointed a b x y) is headed lo base filled pointed = absurd (pointed a b x y refl)
-walks_left g is headed lo base filled pointed = is
-
-pub walks_none : (g : Stage) → walks g ≡ true → ((a b : ℕ) → g ≡ At a b → ⊥) → ((a b : ℕ) → g ≡ Over a b → ⊥) → ((a b x : ℕ) → g ≡ Hit a b x → ⊥) → ⊥
-walks_none (At a b) is at over hit = at a b refl
-walks_none (Over a b) is at over hit = over a b refl
-walks_none (Hit a b x) is at over hit = hit a b x refl
-walks_none g is at over hit = cc (is)

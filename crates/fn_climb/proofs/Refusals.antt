@@ -1,6 +1,6 @@
 -- A beginning takes the steps that its order tells by what its scans found, and is refused where each row of a level is blocked.
 use Rattle.std.proofs.Common.{◌≡◌, ◌≢◌, inl, inr, ℕ, zero, suc, ◌-◌, ◌<◌, ◌≤◌, Bool, true, false, List, [], ◌∷◌, ◌++◌, Option, Some, None, is_none, is_some, not, map, length, refl, sym, ap, subst, ◌∙◌, arith}
-use Rattle.std.specs.Prelude.{slice_index_or, if◌then◌else◌, Ok, Err}
+use Rattle.std.specs.Prelude.{if◌then◌else◌, Ok, Err}
 use Rattle.std.specs.List.{range_with_len, find, flat_map}
 use Rattle.std.proofs.lemmas.Bool.{cases_lt, eq-eqb, ne_eqb, false≢true}
 use Rattle.std.proofs.lemmas.List.{map-append, append-nil, length-map}
@@ -13,13 +13,11 @@ use Rattle.fn_core.specs.Order.{lets}
 use Rattle.fn_core.specs.Begin.{Finds, up_to, others, blocks_by, blocker_by, scanned_by, is_open_by, rows_tried_by, has_open_by, row_scans_by, level_scans_by, is_full_by, full_level_by, scans_by, first_steps, begin_moves_by}
 use Rattle.fn_core.proofs.Public.{Has, EndsIn, IsFound, found_is, none_found, all_reached, has_range, from_range, has_map, has_flat_map, contains, range_ends, map_ends, flat_map_ends, other_is, begin_short, any_found, holds_lets, not_true}
 use Rattle.fn_table.specs.Seen.{PassView, own_of}
-use Rattle.fn_core.specs.declared.Start.{Start}
 use Rattle.fn_model.specs.declared.Call.{Call}
 use Rattle.fn_core.specs.State.{Caller}
 use Rattle.fn_core.specs.Calls.{IsIdle}
-use Rattle.fn_layout.specs.Tree.{IsLevel}
 use Rattle.fn_table.specs.Later.{IsLater}
-use Rattle.fn_climb.specs.Begin.{EndsAtLeaf, IsOpen, AreOpen, AreFirstOpen, HasBegun, Taken, Takes, scan_taken, row_takings, level_takings, scan_takings, finds_of, first_takings, IsLastLoad, RowsTried, Arrived, IsBeginning, IsHeld, IsRefused}
+use Rattle.fn_climb.specs.Begin.{EndsAtLeaf, AreFirstOpen, HasBegun, Taken, Takes, scan_taken, row_takings, level_takings, scan_takings, finds_of, first_takings, IsLastLoad, RowsTried, Arrived, IsBeginning, IsHeld, IsRefused}
 use Rattle.fn_table.proofs.Later.{later_on}
 use Rattle.fn_climb.proofs.Scans.{takes_on, idle_still}
 
@@ -161,12 +159,6 @@ module _ (p : PassView) (kind : Kind) (amount : ℕ) where
         short = omega (arith, length-map all step_of, ap length same, begin_short p.seen.start.shape p.number kind finds amount);
         later = later;
       }
-
-  -- an open row at each level lets the pass arrive
-  pub opened_rows : (rows : List ℕ) (q : PassView) → RowsTried p kind (Ok rows) q → AreOpen q kind rows
-  opened_rows rows q tried level inside =
-      let row = tried.told.1 level (subst (λ (b : Start). IsLevel b.shape level) tried.still.later.start inside) in
-      subst (λ (z : Start × ℕ). (slice_index_or rows (level - 1) 0 < z.0.shape.rows) × IsOpen z.0.shape z.1 (own_of q) kind level (slice_index_or rows (level - 1) 0)) (λ i. (sym tried.still.later.start i, sym tried.still.later.number i)) row
 
   pub begun_waiting : (rows : List ℕ) (q r : PassView) → RowsTried p kind (Ok rows) q → Arrived q kind amount r → (takings : List Taken) × (b : IsBeginning p kind amount takings r) × EndsAtLeaf kind amount takings × HasBegun p kind amount r × AreFirstOpen p (finds_of p kind b.words) rows
   begun_waiting rows q r tried arrived =

@@ -8,7 +8,7 @@ use Rattle.fn_model.specs.declared.Kind.{Kind}
 use Rattle.fn_rows.specs.Machine.{put, Lets}
 use Rattle.fn_rows.proofs.Public.{put_here, put_there}
 use Rattle.fn_layout.specs.declared.shape.Shape.{Shape}
-use Rattle.fn_layout.specs.Tree.{IsLevel, aggregator, member, members, pass_of}
+use Rattle.fn_layout.specs.Tree.{aggregator, member, members, pass_of}
 use Rattle.fn_layout.proofs.Members as layout
 use Rattle.fn_layout.proofs.Tree.{aggregator_below}
 use Rattle.fn_core.specs.declared.Start.{Start}
@@ -19,17 +19,15 @@ use Rattle.fn_core.specs.State.{Caller}
 use Rattle.fn_core.specs.Words.{Own}
 use Rattle.fn_core.specs.After.{put_level}
 use Rattle.fn_core.specs.Order.{lets}
-use Rattle.fn_core.specs.Calls.{IsLegal, IsIdle, state_in}
-use Rattle.fn_core.specs.Machine.{IsChange, Allowed}
-use Rattle.fn_core.specs.declared.Position.TheVariants.{Resting}
+use Rattle.fn_core.specs.Calls.{IsLegal, IsIdle}
 use Rattle.fn_core.specs.Begin.{up_to, is_other, others, blocks_by, blocker_by, scanned_by}
 use Rattle.fn_core.proofs.Public.{range_end, filter_keeps, filter_skips}
 use Rattle.fn_table.specs.declared.spots.Spot.{Spot}
 use Rattle.fn_table.specs.Spots.{spot_of}
-use Rattle.fn_table.specs.Seen.{TableView, PassView, IsOf, May, Stepped, own_of, event}
+use Rattle.fn_table.specs.Seen.{PassView, Stepped, own_of}
 use Rattle.fn_table.proofs.Spares.{level_case}
 use Rattle.fn_climb.specs.Begin.{Taken, Takes, scan_taken, blocked_load, IsStill, RowTried}
-use Rattle.fn_table.proofs.Later.{later_by, later_on, of_later}
+use Rattle.fn_table.proofs.Later.{later_by, later_on}
 use Rattle.fn_climb.proofs.Goes.{level_same}
 use Rattle.fn_climb.proofs.Members.{passed, passed_more, HasNone, before_next, behind_last}
 use Rattle.fn_climb.proofs.Along.{flat_map-one, yields, finds_first, Along, along_start, along_skip, along_past, along_stop, along_through}
@@ -72,19 +70,6 @@ module _ (q r : PassView) (kind : Kind) (level other n : ℕ) (t : Stepped q (Sc
 
 pub idle_still : (p q : PassView) → IsStill p q → IsIdle p.seen p.number → IsIdle q.seen q.number
 idle_still p q still idle = ap (λ (x : Caller). x.position) still.caller ∙ idle
-
--- a pass stays one of its table
-pub of_still : (t : TableView) (p q : PassView) → IsStill p q → IsOf t p → IsOf t q
-of_still t p q still of = of_later t p q still.later of
-
--- the pass may scan another one of its aggregator
-may_scan : (p q : PassView) (kind : Kind) (level x : ℕ) → IsStill p q → p.number < p.seen.start.shape.passes → IsIdle p.seen p.number → IsChange kind → IsLevel p.seen.start.shape level → x < p.seen.start.shape.passes
-    → is_other p.seen.start.shape level p.number x ≡ true → May q (Scan kind level x)
-may_scan p q kind level x still inside idle change at less other =
-    let both = and_parts (aggregator p.seen.start.shape x level == aggregator p.seen.start.shape p.number level) (not (x == p.number)) other in
-    let here : ((state_in q.seen).callers p.number).position ≡ Resting = subst (λ (k : ℕ). ((state_in q.seen).callers k).position ≡ Resting) still.later.number (idle_still p q still idle) in
-    subst (λ (z : Start × ℕ). Allowed z.0 (state_in q.seen) (event z.1 (Scan kind level x))) (λ i. (sym still.later.start i, sym still.later.number i))
-    (inside, (here, change, at.0, at.1, less, (λ same. false≢true (sym (ap not (eq-eqb x p.number same)) ∙ both.1)), eqb-true (aggregator p.seen.start.shape x level) (aggregator p.seen.start.shape p.number level) both.0))
 
 not_and : (a b : Bool) → b ≡ false → (a && b) ≡ false
 not_and true b is = is
@@ -268,9 +253,6 @@ module _ (p : PassView) (kind : Kind) (level n : ℕ) where
 
   -- where another member is scanned, the row is let by it or blocked
   module _ {m x : ℕ} (at : IsMember m x) {q : PassView} (so : MembersSoFar m q) (another : x ≢ p.number) where
-    pub member_may : p.number < shape.passes → IsIdle p.seen p.number → IsChange kind → IsLevel shape level → May q (Scan kind level x)
-    member_may inside idle change there = may_scan p q kind level x so.still inside idle change there (member_inside at) (member_other at another)
-
     module _ {w : ℕ} {r : PassView} (t : Stepped q (Scan kind level x) w r) where
       pub member_more : Lets w end → not (lets (Some w) end) ≡ false → MembersSoFar (m + 1) r
       member_more holds lets_it = past_member at r (row_more x q (before_member at q so) (member_inside at) (member_other at another) w r t holds lets_it)

@@ -157,9 +157,6 @@ module _ {p : PassView} {c : Course} (h : Holds p c) where
               ap enters (ap (λ (k : Kind). same_kind k Add && (start.cap == no_cap)) adds ∙ eq-eqb start.cap no_cap uncapped)
               ∙ ap (λ (g : Stage). Apply (hi_of g - lo_of g)) (sym (held_is h))
 
-          pub may_apply : May p (Apply weight)
-          may_apply = subst (May p) applies (may_by at_top)
-
           pub applied : {n : ℕ} {q : PassView} → Stepped p (Apply weight) n q → Advanced (pending_of p c) told.Going q (at_stage c (based_stage n c.stage))
           applied {n} t =
               let after = t.own ∙ ap (based_own n (own_of p)) (climbing_at h free) in
@@ -167,9 +164,6 @@ module _ {p : PassView} {c : Course} (h : Holds p c) where
 
         -- else the word is loaded, to be exchanged
         module _ (tries : (same_kind c.kind Add && (start.cap == no_cap)) ≡ false) where
-          pub may_load : May p (Load Try)
-          may_load = subst (May p) (ap enters tries) (may_by at_top)
-
           pub loaded_word : {n : ℕ} {q : PassView} → Stepped p (Load Try) n q → Advanced (pending_of p c) told.Going q (record c { word = Some n })
           loaded_word {n} t =
               let after = t.own ∙ ap (loaded_own n (own_of p)) (climbing_at h free) in

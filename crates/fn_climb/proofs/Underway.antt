@@ -79,6 +79,3 @@ module _ {p : PassView} {c : Course} (h : Holds p c) where
     -- where it has loaded the main word, it exchanges it
     pub next_exchange : next_step p ≡ Exchange c.kind (hi_of (c.stage) - lo_of (c.stage))
     next_exchange = ap (next_by p.seen.start s p.number) deciding_at ∙ ap (λ (g : Stage). Exchange c.kind (hi_of g - lo_of g)) (sym held_is)
-
-    pub may_exchange : May p (Exchange c.kind (hi_of (c.stage) - lo_of (c.stage)))
-    may_exchange = subst (May p) next_exchange may_next
