@@ -6,7 +6,7 @@ set -eu
 . "$(dirname "$0")/tool.sh"
 runs=${1:-9} additions=${2:-1000000}
 adder=$(proved funnel_bench)
-plain funnel replay relay drill
+plain funnel replay relay drill shared_drill
 bash bench/trace.sh 20000 1 40 >"$work/few"
 bash bench/trace.sh 200000 1 40 >"$work/rows"
 bash bench/trace.sh 999960 1 40 >"$work/most" # with the 40 openings as many records as a trace may have
@@ -55,6 +55,9 @@ run_all() { # once each
     timed "relay 64 16" "$work/lines" "$tool" relay 64 16
     timed "drill" /dev/null "$tool" drill 0 200000 4
     timed "plain drill" /dev/null "$work/plain_drill" 0 200000 4
+    timed "shared drill" /dev/null "$work/plain_shared_drill" 0 200000 4
+    timed "drill 1" /dev/null "$tool" drill 0 200000 1
+    timed "plain drill 1" /dev/null "$work/plain_drill" 0 200000 1
     timed "play" "$work/norow" "$tool" play
 }
 check_texts() { # that the programs do the same jobs, and that the script answers what it is for
@@ -62,6 +65,8 @@ check_texts() { # that the programs do the same jobs, and that the script answer
     cmp "$work/out.replay most" "$work/out.plain replay most"
     cmp <(grep ^total "$work/out.replay 4") <(grep ^total "$work/out.plain replay 4")
     cmp "$work/out.drill" "$work/out.plain drill"
+    cmp "$work/out.drill" "$work/out.shared drill"
+    cmp "$work/out.drill 1" "$work/out.plain drill 1"
     for name in "relay" "plain relay" "relay 64 1" "relay 64 4" "relay 64 16"; do
         cmp <(cut -d' ' -f2 "$work/out.$name" | sort -n) "$work/lines"
     done
@@ -97,7 +102,9 @@ table() {
     against "relay 4 64, 200,000 lines" "relay" "plain relay" "plain program" seconds
     against "relay 64 4, 200,000 lines" "relay 64 4" "relay 64 1" "relay 64 1" seconds
     against "relay 64 16, 200,000 lines" "relay 64 16" "relay 64 1" "relay 64 1" seconds
-    against "drill 0 200000 4" "drill" "plain drill" "plain program" seconds
+    against "drill 0 200000 4" "drill" "plain drill" "one thread, sums" seconds
+    against "drill 0 200000 4" "drill" "shared drill" "one shared word" seconds
+    against "drill 0 200000 1" "drill 1" "plain drill 1" "one thread, sums" seconds
     against "replay 1, memory a row" "memory" "plain memory" "plain program" bytes
     against "replay 4, memory a row" "memory 4" "plain memory 4" "plain program" bytes
     row "play, 65,536 lines, nearly all norow" "$(seconds "${least["play"]}")" "" "" "" ""
